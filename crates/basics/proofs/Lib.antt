@@ -1,0 +1,5 @@
+-- The shared laws, one file a topic.
+pub mod Truth
+pub mod Lists
+pub mod Order
+pub mod Table

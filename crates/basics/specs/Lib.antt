@@ -1,0 +1,2 @@
+-- The shared definitions. Interface: all of Lists.
+pub mod Lists

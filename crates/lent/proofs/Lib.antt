@@ -1,0 +1,2 @@
+-- The laws, one file a topic.
+pub mod Zeros

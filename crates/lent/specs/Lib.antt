@@ -1,0 +1,2 @@
+-- Interface: twoBytes, fourBytes.
+pub mod Bytes

@@ -1,0 +1,2 @@
+-- Interface: numberOf, placeOf.
+pub mod Table
