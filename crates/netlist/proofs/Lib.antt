@@ -1,0 +1,12 @@
+-- The laws, one file a topic. The kinds; the netlist of a file and what makes it valid; then the check of a file: the
+-- search for a first wrong entry, the sums of pin counts, the search over the pins, the table's rows.
+pub mod KindTable
+pub mod Ranges
+pub mod Entries
+pub mod Valid
+pub mod FirstWrong
+pub mod Sums
+pub mod PinSearch
+pub mod Rows
+pub mod TableOrder
+pub mod Accepted

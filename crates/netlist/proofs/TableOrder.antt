@@ -1,0 +1,332 @@
+-- The rows of the table one after the other: once a row passes, the answer is that of the rows after it. Assumes
+-- nothing.
+use mathlib.Core.Path.{_≡_, refl, sym, ap, _∙_, subst}
+use mathlib.Core.Bool.{Bool, true, false, not, _||_}
+use mathlib.Core.List.{List}
+use Prim.Native.Nat.{ℕ, _+_, _-_, _≤_, _<_}
+use native.Mathlib.Omega.{arith}
+use lib.Dec.{ltb, eqb}
+use lib.ListN.{length}
+use borrow.Author.Tests.{le-ltb, lt-ltb, ltb-false, eq-eqb, ne-eqb, eqb-true}
+use Rattle.lent.specs.Bytes.{twoBytes}
+use Rattle.refusal.specs.declared.Refusal.{Refusal}
+use Rattle.refusal.specs.declared.Refusal.the-variants.{Short, Version, Count, Back, Gate, Pin, Output}
+use Rattle.netlist.specs.declared.Shape.{Shape}
+use Rattle.netlist.specs.declared.Opened.{Opened}
+use Rattle.netlist.specs.declared.Opened.the-variants.{Accepted, Refused}
+use Rattle.netlist.specs.File.{version, shapeOf}
+use Rattle.netlist.specs.Open.{
+  row,
+  countWrong,
+  backWrong,
+  pinsBefore,
+  gatePlace,
+  sumWrong,
+  pinPlace,
+  outputPlace,
+  openOf,
+}
+use Rattle.netlist.specs.Holds.{InRange, Tables, Framed}
+use Rattle.netlist.proofs.Rows.{counts-right, tables-right}
+use Rattle.netlist.proofs.Sums.{sum-of-all}
+
+-- a row refuses, or passes on
+row-stops : {b : Bool} (refusal : Refusal) (next : Opened) → b ≡ true → Refused refusal ≡ row b refusal next
+row-stops refusal next e = ap (λ (b : Bool). row b refusal next) (sym e)
+
+row-passes : {b : Bool} (refusal : Refusal) (next : Opened) → b ≡ false → next ≡ row b refusal next
+row-passes refusal next e = ap (λ (b : Bool). row b refusal next) (sym e)
+
+module _ (file : List ℕ) (shape : Shape) where
+  -- the answer from row 7 on, 6 on, and so up to row 2
+  abbrev rowSeven : Opened
+  rowSeven = row (ltb (outputPlace file shape) (shape .outputs)) (Output (outputPlace file shape)) (Accepted shape)
+
+  abbrev rowSix : Opened
+  rowSix = row (ltb (pinPlace file shape) (shape .pins)) (Pin (pinPlace file shape)) rowSeven
+
+  abbrev rowFive : Opened
+  rowFive =
+      row (ltb (gatePlace file shape) (shape .gates) || sumWrong file shape) (Gate (gatePlace file shape)) rowSix
+
+  abbrev rowFour : Opened
+  rowFour = row (backWrong file) Back rowFive
+
+  abbrev rowThree : Opened
+  rowThree = row (ltb (countWrong shape) 4) (Count (countWrong shape)) rowFour
+
+  abbrev rowTwo : Opened
+  rowTwo = row (not (eqb (version file) 1)) (Version (version file)) rowThree
+
+  opens : shape ≡ shapeOf file → row (ltb (length file) 14) (Short (length file)) rowTwo ≡ openOf file
+  unfolding openOf
+  opens e =
+      ap
+      (λ (s : Shape).
+      row (ltb (length file) 14) (Short (length file))
+      (row (not (eqb (version file) 1)) (Version (version file))
+      (row (ltb (countWrong s) 4) (Count (countWrong s))
+      (row (backWrong file) Back
+      (row (ltb (gatePlace file s) (s .gates) || sumWrong file s) (Gate (gatePlace file s))
+      (row (ltb (pinPlace file s) (s .pins)) (Pin (pinPlace file s))
+      (row (ltb (outputPlace file s) (s .outputs)) (Output (outputPlace file s)) (Accepted s))))))))
+      e
+
+-- ---- row 1
+
+pub short : (file : List ℕ) → length file < 14 → Refused (Short (length file)) ≡ openOf file
+short file h =
+    row-stops (Short (length file)) (rowTwo file (shapeOf file)) (lt-ltb (length file) 14 h)
+    ∙ opens file (shapeOf file) refl
+
+at-two : (file : List ℕ) (shape : Shape) → 14 ≤ length file → shape ≡ shapeOf file → rowTwo file shape ≡ openOf file
+at-two file shape h e =
+    row-passes (Short (length file)) (rowTwo file shape) (le-ltb (length file) 14 h) ∙ opens file shape e
+
+-- ---- row 2
+
+-- the version's bytes are the last two
+version-is : (file : List ℕ) {v : ℕ} → 14 ≤ length file → v ≡ twoBytes file (length file - 2) → v ≡ version file
+version-is file h e =
+    let f : length file - 2 ≡ length file - 14 + 12 = omega arith in
+    e ∙ ap (twoBytes file) f
+
+pub version-wrong : (file : List ℕ) {v : ℕ} → 14 ≤ length file → v ≡ twoBytes file (length file - 2) → (v ≡ 1 → ⊥) →
+    Refused (Version v) ≡ openOf file
+version-wrong file h e d =
+    let f = version-is file h e in
+    ap (λ (n : ℕ). Refused (Version n)) f
+    ∙ row-stops (Version (version file)) (rowThree file (shapeOf file))
+    (ap not (ne-eqb (version file) 1 (λ q. d (f ∙ q))))
+    ∙ at-two file (shapeOf file) h refl
+
+-- rows 1 and 2 pass
+pub record Long (file : List ℕ) : Type 0 where
+  pub long : 14 ≤ length file
+  pub version-one : version file ≡ 1
+
+pub longs : (file : List ℕ) {v : ℕ} → 14 ≤ length file → v ≡ twoBytes file (length file - 2) → v ≡ 1 → Long file
+longs file h e f = record { long = h; version-one = sym (version-is file h e) ∙ f }
+
+at-three : (file : List ℕ) (shape : Shape) → Long file → shape ≡ shapeOf file → rowThree file shape ≡ openOf file
+at-three file shape l e =
+    row-passes (Version (version file)) (rowThree file shape)
+    (ap not (eq-eqb (version file) 1 (l .version-one)))
+    ∙ at-two file shape (l .long) e
+
+-- ---- row 3
+
+pub count-wrong : {file : List ℕ} {shape : Shape} {which : ℕ} → Long file → shape ≡ shapeOf file →
+    which ≡ countWrong shape → which < 4 → Refused (Count which) ≡ openOf file
+count-wrong {file} {shape} {which} l e f h =
+    ap (λ (n : ℕ). Refused (Count n)) f
+    ∙ row-stops (Count (countWrong shape)) (rowFour file shape) (lt-ltb (countWrong shape) 4 (omega arith))
+    ∙ at-three file shape l e
+
+-- rows 1 to 3 pass
+pub record Ranged (file : List ℕ) (shape : Shape) : Type 0 where
+  pub trailer : Long file
+  pub shape-is : shape ≡ shapeOf file
+  pub counts : 4 ≤ countWrong shape
+
+pub ranged : {file : List ℕ} {shape : Shape} {which : ℕ} → Long file → shape ≡ shapeOf file →
+    which ≡ countWrong shape → 4 ≤ which → Ranged file shape
+ranged l e f h = record { trailer = l; shape-is = e; counts = omega arith }
+
+at-four : {file : List ℕ} {shape : Shape} → Ranged file shape → rowFour file shape ≡ openOf file
+at-four {file} {shape} r =
+    row-passes (Count (countWrong shape)) (rowFour file shape) (le-ltb (countWrong shape) 4 (r .counts))
+    ∙ at-three file shape (r .trailer) (r .shape-is)
+
+-- ---- row 4
+
+pub back-wrong : {file : List ℕ} {shape : Shape} {wrong : Bool} → Ranged file shape →
+    wrong ≡ backWrong file → wrong ≡ true → Refused Back ≡ openOf file
+back-wrong {file} {shape} r e f = row-stops Back (rowFive file shape) (sym e ∙ f) ∙ at-four r
+
+-- rows 1 to 4 pass
+pub framed : {file : List ℕ} {shape : Shape} {wrong : Bool} → Ranged file shape →
+    wrong ≡ backWrong file → wrong ≡ false → Framed file shape
+framed r e f =
+    record {
+      long = r .trailer .long;
+      version-one = r .trailer .version-one;
+      shape-is = r .shape-is;
+      counts = r .counts;
+      back = sym e ∙ f;
+    }
+
+pub in-range : {file : List ℕ} {shape : Shape} → Framed file shape → InRange shape
+in-range {file} {shape} t = counts-right shape (t .counts)
+
+pub tables : {file : List ℕ} {shape : Shape} → Framed file shape → Tables file shape
+tables {file} {shape} t = subst (Tables file) (sym (t .shape-is)) (tables-right file (t .long) (t .back))
+
+at-five : {file : List ℕ} {shape : Shape} → Framed file shape → rowFive file shape ≡ openOf file
+at-five {file} {shape} t =
+    let trailer : Long file = record { long = t .long; version-one = t .version-one } in
+    row-passes Back (rowFive file shape) (t .back)
+    ∙ at-four (record { trailer = trailer; shape-is = t .shape-is; counts = t .counts })
+
+-- ---- row 5
+
+pub gate-wrong : {file : List ℕ} {shape : Shape} {place : ℕ} → Framed file shape →
+    place ≡ gatePlace file shape → place < shape .gates → Refused (Gate place) ≡ openOf file
+gate-wrong {file} {shape} {place} t e h =
+    ap (λ (n : ℕ). Refused (Gate n)) e
+    ∙ row-stops (Gate (gatePlace file shape)) (rowSix file shape)
+    (ap (λ (b : Bool). b || sumWrong file shape) (lt-ltb (gatePlace file shape) (shape .gates) (omega arith)))
+    ∙ at-five t
+
+-- the sum of the pin counts, and the test of it
+sum-test : (file : List ℕ) (shape : Shape) {place : ℕ} {b : Bool} → place ≡ gatePlace file shape →
+    shape .gates ≤ place → eqb (pinsBefore file shape (shape .gates)) (shape .pins) ≡ b →
+    (ltb (gatePlace file shape) (shape .gates) || sumWrong file shape) ≡ not b
+unfolding sumWrong
+sum-test file shape {place} {b} e h f =
+    ap (λ (x : Bool). x || sumWrong file shape) (le-ltb (gatePlace file shape) (shape .gates) (omega arith))
+    ∙ ap not f
+
+pub sum-wrong : {file : List ℕ} {shape : Shape} {place sum : ℕ} → Framed file shape →
+    place ≡ gatePlace file shape → place ≤ shape .gates → sum ≡ pinsBefore file shape place →
+    shape .gates ≤ place → (sum ≡ shape .pins → ⊥) → Refused (Gate place) ≡ openOf file
+sum-wrong {file} {shape} {place} {sum} t e l s h d =
+    let f = sum-of-all file shape s l h in
+    ap (λ (n : ℕ). Refused (Gate n)) e
+    ∙ row-stops (Gate (gatePlace file shape)) (rowSix file shape)
+    (sum-test file shape e h (ne-eqb (pinsBefore file shape (shape .gates)) (shape .pins) (λ q. d (f ∙ q))))
+    ∙ at-five t
+
+-- rows 1 to 5 pass
+pub record Gated (file : List ℕ) (shape : Shape) : Type 0 where
+  pub tables : Framed file shape
+  pub gates : shape .gates ≤ gatePlace file shape
+  pub sum : pinsBefore file shape (shape .gates) ≡ shape .pins
+
+pub gated : {file : List ℕ} {shape : Shape} {place sum : ℕ} → Framed file shape →
+    place ≡ gatePlace file shape → place ≤ shape .gates → sum ≡ pinsBefore file shape place →
+    shape .gates ≤ place → sum ≡ shape .pins → Gated file shape
+gated {file} {shape} t e l s h g =
+    record { tables = t; gates = omega arith; sum = sym (sum-of-all file shape s l h) ∙ g }
+
+at-six : {file : List ℕ} {shape : Shape} → Gated file shape → rowSix file shape ≡ openOf file
+at-six {file} {shape} g =
+    row-passes (Gate (gatePlace file shape)) (rowSix file shape)
+    (sum-test file shape refl (g .gates) (eq-eqb (pinsBefore file shape (shape .gates)) (shape .pins) (g .sum)))
+    ∙ at-five (g .tables)
+
+-- ---- row 6
+
+pub pin-wrong : {file : List ℕ} {shape : Shape} {place : ℕ} → Gated file shape →
+    place ≡ pinPlace file shape → place < shape .pins → Refused (Pin place) ≡ openOf file
+pin-wrong {file} {shape} {place} g e h =
+    ap (λ (n : ℕ). Refused (Pin n)) e
+    ∙ row-stops (Pin (pinPlace file shape)) (rowSeven file shape)
+    (lt-ltb (pinPlace file shape) (shape .pins) (omega arith))
+    ∙ at-six g
+
+-- rows 1 to 6 pass
+pub record Pinned (file : List ℕ) (shape : Shape) : Type 0 where
+  pub gates : Gated file shape
+  pub pins : shape .pins ≤ pinPlace file shape
+
+pub pinned : {file : List ℕ} {shape : Shape} {place : ℕ} → Gated file shape →
+    place ≡ pinPlace file shape → shape .pins ≤ place → Pinned file shape
+pinned g e h = record { gates = g; pins = omega arith }
+
+at-seven : {file : List ℕ} {shape : Shape} → Pinned file shape → rowSeven file shape ≡ openOf file
+at-seven {file} {shape} p =
+    row-passes (Pin (pinPlace file shape)) (rowSeven file shape)
+    (le-ltb (pinPlace file shape) (shape .pins) (p .pins))
+    ∙ at-six (p .gates)
+
+-- ---- row 7
+
+pub output-wrong : {file : List ℕ} {shape : Shape} {place : ℕ} → Pinned file shape →
+    place ≡ outputPlace file shape → place < shape .outputs → Refused (Output place) ≡ openOf file
+output-wrong {file} {shape} {place} p e h =
+    ap (λ (n : ℕ). Refused (Output n)) e
+    ∙ row-stops (Output (outputPlace file shape)) (Accepted shape)
+    (lt-ltb (outputPlace file shape) (shape .outputs) (omega arith))
+    ∙ at-seven p
+
+-- all rows pass
+pub accepted : {file : List ℕ} {shape : Shape} {place : ℕ} → Pinned file shape →
+    place ≡ outputPlace file shape → shape .outputs ≤ place → Accepted shape ≡ openOf file
+accepted {file} {shape} {place} p e h =
+    row-passes (Output (outputPlace file shape)) (Accepted shape)
+    (le-ltb (outputPlace file shape) (shape .outputs) (omega arith))
+    ∙ at-seven p
+
+-- ---- back from an accepted file
+
+-- a row that ends in acceptance has passed
+row-accepts : (b : Bool) (refusal : Refusal) (next : Opened) (shape : Shape) → row b refusal next ≡ Accepted shape →
+    (b ≡ false) × (next ≡ Accepted shape)
+row-accepts true refusal next shape e = let z : _≡_ {A = ℕ} 0 1 = cc in absurd (omega arith)
+row-accepts false refusal next shape e = (refl, e)
+
+pub not-back : (a : Bool) → not a ≡ false → a ≡ true
+not-back true e = refl
+not-back false e = let z : _≡_ {A = ℕ} 0 1 = cc in absurd (omega arith)
+
+pub or-left-back : (a b : Bool) → (a || b) ≡ false → a ≡ false
+or-left-back true b e = e
+or-left-back false b e = refl
+
+pub or-right-back : (a b : Bool) → (a || b) ≡ false → b ≡ false
+or-right-back true b e = let z : _≡_ {A = ℕ} 0 1 = cc in absurd (omega arith)
+or-right-back false b e = e
+
+-- all rows have passed
+pub record Passed (file : List ℕ) (shape : Shape) : Type 0 where
+  pub pins : Pinned file shape
+  pub outputs : shape .outputs ≤ outputPlace file shape
+
+passed-own : (file : List ℕ) (shape : Shape) → openOf file ≡ Accepted shape →
+    Passed file (shapeOf file) × (Accepted (shapeOf file) ≡ Accepted shape)
+unfolding sumWrong
+passed-own file shape e =
+    let s : Shape = shapeOf file in
+    let one = row-accepts (ltb (length file) 14) (Short (length file)) (rowTwo file s) shape (opens file s refl ∙ e) in
+    let two = row-accepts (not (eqb (version file) 1)) (Version (version file)) (rowThree file s) shape (one .1) in
+    let three = row-accepts (ltb (countWrong s) 4) (Count (countWrong s)) (rowFour file s) shape (two .1) in
+    let four = row-accepts (backWrong file) Back (rowFive file s) shape (three .1) in
+    let five =
+    row-accepts (ltb (gatePlace file s) (s .gates) || sumWrong file s) (Gate (gatePlace file s)) (rowSix file s) shape
+    (four .1)
+    in
+    let six = row-accepts (ltb (pinPlace file s) (s .pins)) (Pin (pinPlace file s)) (rowSeven file s) shape (five .1) in
+    let seven =
+    row-accepts (ltb (outputPlace file s) (s .outputs)) (Output (outputPlace file s)) (Accepted s) shape (six .1)
+    in
+    let sum =
+    not-back (eqb (pinsBefore file s (s .gates)) (s .pins))
+    (or-right-back (ltb (gatePlace file s) (s .gates)) (sumWrong file s) (five .0))
+    in
+    let frame : Framed file s =
+    record {
+      long = ltb-false (length file) 14 (one .0);
+      version-one = eqb-true (version file) 1 (not-back (eqb (version file) 1) (two .0));
+      shape-is = refl;
+      counts = ltb-false (countWrong s) 4 (three .0);
+      back = four .0;
+    }
+    in
+    let gates : Gated file s =
+    record {
+      tables = frame;
+      gates =
+          ltb-false (gatePlace file s) (s .gates)
+          (or-left-back (ltb (gatePlace file s) (s .gates)) (sumWrong file s) (five .0));
+      sum = eqb-true (pinsBefore file s (s .gates)) (s .pins) sum;
+    }
+    in
+    let pins : Pinned file s = record { gates = gates; pins = ltb-false (pinPlace file s) (s .pins) (six .0) } in
+    (record { pins = pins; outputs = ltb-false (outputPlace file s) (s .outputs) (seven .0) }, seven .1)
+
+pub passed : (file : List ℕ) (shape : Shape) → openOf file ≡ Accepted shape → Passed file shape
+passed file shape e =
+    let w = passed-own file shape e in
+    let q : shapeOf file ≡ shape = (let f : Accepted (shapeOf file) ≡ Accepted shape = w .1 in cc) in
+    subst (Passed file) q (w .0)

@@ -1,0 +1,102 @@
+-- "The netlist file": where its numbers lie, and the netlist that they say. Interface: all of it.
+use mathlib.Core.List.{List, [], _∷_, map}
+use Prim.Native.Nat.{ℕ, zero, suc, _+_, _-_, _*_}
+use lib.ListN.{length, getD}
+use Rattle.basics.specs.Lists.{upFrom}
+use Rattle.lent.specs.Bytes.{twoBytes, fourBytes}
+use Rattle.netlist.specs.declared.Shape.{Shape}
+use Rattle.netlist.specs.declared.Gate.{Gate}
+use Rattle.netlist.specs.Netlist.{Netlist, Cell, Pin}
+use Rattle.netlist.specs.Kinds.{kindOf}
+
+-- ---- the trailer: back (4 bytes), inputs I, gates G, pins P, outputs Q, version (2 bytes each)
+
+-- "a trailer of 14 bytes"
+abbrev pub trailer : List ℕ → ℕ
+trailer file = length file - 14
+
+abbrev pub back : List ℕ → ℕ
+back file = fourBytes file (trailer file)
+
+abbrev pub inputs : List ℕ → ℕ
+inputs file = twoBytes file (trailer file + 4)
+
+abbrev pub gates : List ℕ → ℕ
+gates file = twoBytes file (trailer file + 6)
+
+abbrev pub pins : List ℕ → ℕ
+pins file = twoBytes file (trailer file + 8)
+
+abbrev pub outputs : List ℕ → ℕ
+outputs file = twoBytes file (trailer file + 10)
+
+abbrev pub version : List ℕ → ℕ
+version file = twoBytes file (trailer file + 12)
+
+-- "Back is 4G+4P+2Q, the bytes from the first table to the trailer"
+unfoldable pub tableBytes : List ℕ → ℕ
+tableBytes file = gates file * 4 + pins file * 4 + outputs file * 2
+
+-- the four counts, and where the tables begin
+unfoldable pub shapeOf : List ℕ → Shape
+shapeOf file =
+    record {
+      inputs = inputs file;
+      gates = gates file;
+      pins = pins file;
+      outputs = outputs file;
+      tables = trailer file - tableBytes file;
+    }
+
+-- ---- the tables, of a file whose tables begin at `tables`
+
+-- "gates, 4 bytes each: kind, pin count (1 byte each), number of its first pin (2 bytes)"
+abbrev pub kindAt : List ℕ → Shape → ℕ → ℕ
+kindAt file shape gate = getD file (shape .tables + gate * 4) 0
+
+abbrev pub countAt : List ℕ → Shape → ℕ → ℕ
+countAt file shape gate = getD file (shape .tables + gate * 4 + 1) 0
+
+abbrev pub firstAt : List ℕ → Shape → ℕ → ℕ
+firstAt file shape gate = twoBytes file (shape .tables + gate * 4 + 2)
+
+-- "pins, 4 bytes: driving node (2 bytes), delay 0..999 (2 bytes)"
+abbrev pub driverAt : List ℕ → Shape → ℕ → ℕ
+driverAt file shape pin = twoBytes file (shape .tables + shape .gates * 4 + pin * 4)
+
+abbrev pub delayAt : List ℕ → Shape → ℕ → ℕ
+delayAt file shape pin = twoBytes file (shape .tables + shape .gates * 4 + pin * 4 + 2)
+
+-- "outputs, 2 bytes: node numbers"
+abbrev pub outputAt : List ℕ → Shape → ℕ → ℕ
+outputAt file shape position = twoBytes file (shape .tables + shape .gates * 4 + shape .pins * 4 + position * 2)
+
+-- ---- the netlist that they say
+
+-- "each gate is one record whose kind carries its own data"
+unfoldable pub gateAt : List ℕ → Shape → ℕ → Gate
+gateAt file shape gate =
+    record { kind = kindOf (kindAt file shape gate); first = firstAt file shape gate; count = countAt file shape gate }
+
+unfoldable pub pinAt : List ℕ → Shape → ℕ → Pin
+pinAt file shape pin = record { driver = driverAt file shape pin; delay = delayAt file shape pin }
+
+-- a gate's pins lie together, from its first pin on
+unfoldable pub cellOf : List ℕ → Shape → Gate → Cell
+cellOf file shape gate =
+    record { kind = gate .kind; pins = map (pinAt file shape) (upFrom (gate .first) (gate .count)) }
+
+unfoldable pub cellAt : List ℕ → Shape → ℕ → Cell
+cellAt file shape gate = cellOf file shape (gateAt file shape gate)
+
+unfoldable pub netlistAt : List ℕ → Shape → Netlist
+netlistAt file shape =
+    record {
+      inputs = shape .inputs;
+      gates = map (cellAt file shape) (upFrom 0 (shape .gates));
+      outputs = map (outputAt file shape) (upFrom 0 (shape .outputs));
+    }
+
+-- the netlist of a file
+abbrev pub netlistOf : List ℕ → Netlist
+netlistOf file = netlistAt file (shapeOf file)

@@ -1,0 +1,60 @@
+-- What every later read of an accepted file may lean on. Interface: Holds, Tables. InRange and Framed serve `open`.
+use mathlib.Core.Path.{_≡_}
+use mathlib.Core.Bool.{false}
+use mathlib.Core.List.{List}
+use Prim.Native.Nat.{ℕ, _+_, _*_, _≤_, _<_}
+use lib.Dec.{T}
+use lib.ListN.{length}
+use Rattle.netlist.specs.declared.Shape.{Shape}
+use Rattle.netlist.specs.declared.Opened.the-variants.{Accepted}
+use Rattle.netlist.specs.Netlist.{valid}
+use Rattle.netlist.specs.File.{
+  version,
+  shapeOf,
+  netlistAt,
+  firstAt,
+  countAt,
+  driverAt,
+  delayAt,
+  outputAt,
+}
+use Rattle.netlist.specs.Open.{countWrong, backWrong, openOf}
+
+-- "I is 1..64, G 0..448, P 0..2048, Q 1..64"
+pub record InRange (shape : Shape) : Type 0 where
+  pub inputs-some : 1 ≤ shape .inputs
+  pub inputs-few : shape .inputs ≤ 64
+  pub gates-few : shape .gates ≤ 448
+  pub pins-few : shape .pins ≤ 2048
+  pub outputs-some : 1 ≤ shape .outputs
+  pub outputs-few : shape .outputs ≤ 64
+
+-- "Before it lie, in order: gates, pins, outputs": the tables and the trailer fill the file from `tables` on
+pub record Tables (file : List ℕ) (shape : Shape) : Type 0 where
+  pub room : shape .tables + shape .gates * 4 + shape .pins * 4 + shape .outputs * 2 + 14 ≡ length file
+
+-- checks 1 to 4 have passed, and the trailer says this shape
+pub record Framed (file : List ℕ) (shape : Shape) : Type 0 where
+  pub long : 14 ≤ length file
+  pub version-one : version file ≡ 1
+  pub shape-is : shape ≡ shapeOf file
+  pub counts : 4 ≤ countWrong shape
+  pub back : backWrong file ≡ false
+
+-- the file is accepted with this shape; the rest follows from it (proofs/Accepted)
+pub record Holds (file : List ℕ) (shape : Shape) : Type 0 where
+  pub opened : openOf file ≡ Accepted shape
+  pub valid : T (valid (netlistAt file shape))
+  pub inputs-some : 1 ≤ shape .inputs
+  pub inputs-few : shape .inputs ≤ 64
+  pub gates-few : shape .gates ≤ 448
+  pub pins-few : shape .pins ≤ 2048
+  pub outputs-some : 1 ≤ shape .outputs
+  pub outputs-few : shape .outputs ≤ 64
+  pub tables : Tables file shape
+  pub pins-within : (gate : ℕ) → gate < shape .gates → firstAt file shape gate + countAt file shape gate ≤ shape .pins
+  pub drivers-below : (gate pin : ℕ) → gate < shape .gates → firstAt file shape gate ≤ pin →
+      pin < firstAt file shape gate + countAt file shape gate → driverAt file shape pin < shape .inputs + gate
+  pub delays-small : (pin : ℕ) → pin < shape .pins → delayAt file shape pin ≤ 999
+  pub outputs-nodes : (position : ℕ) → position < shape .outputs →
+      outputAt file shape position < shape .inputs + shape .gates

@@ -1,0 +1,60 @@
+-- A netlist as data, apart from its bytes: inputs, gates with their pins, outputs. Interface: all of it.
+use mathlib.Core.Bool.{Bool, true, false, _&&_}
+use mathlib.Core.List.{List, [], _∷_}
+use Prim.Native.Nat.{ℕ, zero, suc, _+_}
+use lib.Dec.{leb, ltb, eqb}
+use lib.ListN.{length}
+use Rattle.basics.specs.Lists.{all, numbered}
+use Rattle.netlist.specs.declared.Kind.{Kind}
+use Rattle.netlist.specs.declared.Kind.the-variants.{Simple, Parity, Mux}
+
+-- a pin: the node that drives it, and its delay
+pub record Pin : Type 0 where
+  pub driver : ℕ
+  pub delay : ℕ
+
+-- a gate with its pins
+pub record Cell : Type 0 where
+  pub kind : Kind
+  pub pins : List Pin
+
+-- "Nodes are numbered from 0, inputs first, then gates"; an output is a node's number
+pub record Netlist : Type 0 where
+  pub inputs : ℕ
+  pub gates : List Cell
+  pub outputs : List ℕ
+
+-- "N = I+G"
+abbrev pub nodeCount : Netlist → ℕ
+nodeCount net = net .inputs + length (net .gates)
+
+-- the gates with their nodes
+abbrev pub nodes : Netlist → List (ℕ × Cell)
+nodes net = numbered (net .inputs) (net .gates)
+
+-- the number of pins that a kind can have: a simple gate 1 to 8, XOR and XNOR 2, MUX 3
+abbrev pub takes : Kind → ℕ → Bool
+takes (Simple c k) n = leb 1 n && leb n 8
+takes (Parity odd) n = eqb n 2
+takes Mux n = eqb n 3
+
+-- "A pin's node is smaller than its gate's node"; "delay 0..999"
+abbrev pub pinFits : ℕ → Pin → Bool
+pinFits node pin = ltb (pin .driver) node && leb (pin .delay) 999
+
+-- a gate at its node: the kind takes its pins, and each pin fits
+abbrev pub gateFits : ℕ × Cell → Bool
+gateFits x = takes (x .1 .kind) (length (x .1 .pins)) && all (pinFits (x .0)) (x .1 .pins)
+
+-- "node numbers, strictly rising", each at least `from`
+unfoldable pub rising : ℕ → List ℕ → Bool
+rising from [] = true
+rising from (x ∷ xs) = leb from x && rising (suc x) xs
+
+-- what the checks 3, 5, 6 and 7 leave of a netlist
+unfoldable pub valid : Netlist → Bool
+valid net =
+    (leb 1 (net .inputs) && leb (net .inputs) 64 && leb (length (net .gates)) 448)
+    && all gateFits (nodes net)
+    && (rising 0 (net .outputs) && all (λ o. ltb o (nodeCount net)) (net .outputs)
+    && leb 1 (length (net .outputs)) && leb (length (net .outputs)) 64)

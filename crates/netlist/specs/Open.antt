@@ -1,0 +1,111 @@
+-- Refusals 1 to 7, row by row: the table's "when" and "place" columns, "in table order: all gates before all pins
+-- before outputs". Interface: openOf.
+use mathlib.Core.Bool.{Bool, true, false, not, _&&_, _||_, cond}
+use mathlib.Core.List.{List, [], _∷_, map}
+use Prim.Native.Nat.{ℕ, zero, suc, _+_, _-_}
+use lib.Dec.{leb, ltb, eqb}
+use lib.ListN.{length}
+use Rattle.basics.specs.Lists.{upFrom, concatMap}
+use Rattle.refusal.specs.declared.Refusal.{Refusal}
+use Rattle.refusal.specs.declared.Refusal.the-variants.{Short, Version, Count, Back, Gate, Pin, Output}
+use Rattle.netlist.specs.declared.Shape.{Shape}
+use Rattle.netlist.specs.declared.Opened.{Opened}
+use Rattle.netlist.specs.declared.Opened.the-variants.{Accepted, Refused}
+use Rattle.netlist.specs.Kinds.{fewest, most}
+use Rattle.netlist.specs.File.{
+  trailer,
+  back,
+  version,
+  inputs,
+  gates,
+  pins,
+  outputs,
+  tableBytes,
+  shapeOf,
+  kindAt,
+  countAt,
+  firstAt,
+  driverAt,
+  delayAt,
+  outputAt,
+}
+
+-- a row of the table: refused when, or on to the next row
+abbrev pub row : Bool → Refusal → Opened → Opened
+row true refusal next = Refused refusal
+row false refusal next = next
+
+-- how many entries stand before the first that fails a test; all of them where none does
+unfoldable pub firstWrong : {A : Type 0} → (A → Bool) → List A → ℕ
+firstWrong wrong [] = 0
+firstWrong wrong (x ∷ xs) = cond (wrong x) 0 (suc (firstWrong wrong xs))
+
+-- 3 COUNT: "I, G, P or Q outside its range"; I is 1..64, G 0..448, P 0..2048, Q 1..64; 4 where each is within
+unfoldable pub countWrong : Shape → ℕ
+countWrong shape =
+    cond (leb 1 (shape .inputs) && leb (shape .inputs) 64)
+    (cond (leb (shape .gates) 448)
+    (cond (leb (shape .pins) 2048) (cond (leb 1 (shape .outputs) && leb (shape .outputs) 64) 4 3) 2) 1) 0
+
+-- 4 BACK: "back isn't 4G+4P+2Q or exceeds length less 14"
+unfoldable pub backWrong : List ℕ → Bool
+backWrong file = not (eqb (back file) (tableBytes file)) || ltb (trailer file) (back file)
+
+-- the sum of the pin counts of the first n gates
+unfoldable pub pinsBefore : List ℕ → Shape → ℕ → ℕ
+pinsBefore file shape zero = 0
+pinsBefore file shape (suc n) = pinsBefore file shape n + countAt file shape n
+
+-- 5 GATE: "unknown kind, pin count or first pin wrong"
+unfoldable pub gateWrong : List ℕ → Shape → ℕ → Bool
+gateWrong file shape gate =
+    not (leb (fewest (kindAt file shape gate)) (countAt file shape gate)
+    && leb (countAt file shape gate) (most (kindAt file shape gate))
+    && eqb (firstAt file shape gate) (pinsBefore file shape gate))
+
+-- the first wrong gate, or G
+unfoldable pub gatePlace : List ℕ → Shape → ℕ
+gatePlace file shape = firstWrong (gateWrong file shape) (upFrom 0 (shape .gates))
+
+-- "final sum isn't P", at place G
+unfoldable pub sumWrong : List ℕ → Shape → Bool
+sumWrong file shape = not (eqb (pinsBefore file shape (shape .gates)) (shape .pins))
+
+-- the pins of a gate, each with its gate's node
+unfoldable pub pinsAt : List ℕ → Shape → ℕ → List (ℕ × ℕ)
+pinsAt file shape gate =
+    map (λ pin. (shape .inputs + gate, pin)) (upFrom (pinsBefore file shape gate) (countAt file shape gate))
+
+-- 6 PIN: "driver not below its gate, or delay over 999"
+unfoldable pub pinWrong : List ℕ → Shape → ℕ × ℕ → Bool
+pinWrong file shape x = not (ltb (driverAt file shape (x .1)) (x .0)) || ltb 999 (delayAt file shape (x .1))
+
+-- how many pins of a gate stand before its first wrong one
+abbrev pub rightPins : List ℕ → Shape → ℕ → ℕ
+rightPins file shape gate = firstWrong (pinWrong file shape) (pinsAt file shape gate)
+
+-- the first wrong pin, or P: the gates' pins are 0, 1, 2 and on
+unfoldable pub pinPlace : List ℕ → Shape → ℕ
+pinPlace file shape = firstWrong (pinWrong file shape) (concatMap (pinsAt file shape) (upFrom 0 (shape .gates)))
+
+-- 7 OUTPUT: "not rising, or N or more"
+unfoldable pub outputWrong : List ℕ → Shape → ℕ → Bool
+outputWrong file shape position =
+    (ltb 0 position && leb (outputAt file shape position) (outputAt file shape (position - 1)))
+    || leb (shape .inputs + shape .gates) (outputAt file shape position)
+
+-- the first wrong output, or Q
+unfoldable pub outputPlace : List ℕ → Shape → ℕ
+outputPlace file shape = firstWrong (outputWrong file shape) (upFrom 0 (shape .outputs))
+
+-- the answer for any list of bytes
+unfoldable pub openOf : List ℕ → Opened
+openOf file =
+    let shape : Shape = shapeOf file in
+    row (ltb (length file) 14) (Short (length file))
+    (row (not (eqb (version file) 1)) (Version (version file))
+    (row (ltb (countWrong shape) 4) (Count (countWrong shape))
+    (row (backWrong file) Back
+    (row (ltb (gatePlace file shape) (shape .gates) || sumWrong file shape) (Gate (gatePlace file shape))
+    (row (ltb (pinPlace file shape) (shape .pins)) (Pin (pinPlace file shape))
+    (row (ltb (outputPlace file shape) (shape .outputs)) (Output (outputPlace file shape)) (Accepted shape)))))))

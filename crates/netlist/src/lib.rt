@@ -1,0 +1,404 @@
+// The netlist file: accepted, with its shape, or refused with document 01's number and place; and the reads of an
+// accepted file. Assumes nothing.
+use refusal::Refusal;
+ghost use mathlib.Core.Path.{_≡_};
+ghost use mathlib.Core.Bool.{_&&_};
+ghost use Prim.Native.Nat.{_+_, _-_, _*_, _≤_, _<_};
+ghost use lib.Dec.{leb};
+ghost use lib.ListN.{length};
+ghost use Rattle.netlist.specs.Kinds.{kindOf, fewest, most, recordOf, digitOf};
+ghost use Rattle.netlist.specs.File.{gateAt, countAt, driverAt, delayAt, outputAt, shapeOf, tableBytes};
+ghost use Rattle.netlist.specs.Open.{openOf, countWrong, backWrong, pinsBefore, gateWrong, gatePlace};
+ghost use Rattle.netlist.specs.Open.{pinWrong, rightPins, pinPlace, outputWrong, outputPlace};
+ghost use Rattle.netlist.specs.Holds.{InRange, Tables, Framed};
+
+// What a gate does: c and k of a simple gate; a parity gate's value for equal pins; nothing for a multiplexer.
+pub enum Kind {
+    Simple { c: bool, k: bool },
+    Parity(bool),
+    Mux,
+}
+
+// One gate: its kind, the number of its first pin, and how many pins it has.
+pub struct Gate {
+    pub kind: Kind,
+    pub first: usize,
+    pub count: usize,
+}
+
+// The four counts of an accepted file, and where its tables begin.
+pub struct Shape {
+    pub inputs: usize,
+    pub gates: usize,
+    pub pins: usize,
+    pub outputs: usize,
+    pub tables: usize,
+}
+
+// The answer for a file.
+pub enum Opened {
+    Accepted(Shape),
+    Refused(Refusal),
+}
+
+// The table of kinds, a number a column: the fewest pins, the most, c and k; a parity gate's value for equal pins
+// stands under k. A column has a hexadecimal digit for each kind: kind 9 first, then 8, and so on down to 0, no kind.
+// Four numbers, not forty bytes: a table that is read at a computed place is laid out anew at each call.
+const KINDS: [usize; 4] = [0x3222222111, 0x3228888110, 0x0001100000, 0x0100110100];
+
+// A kind's digit in a column.
+fn digit(column: usize, kind: usize) -> usize
+    requires { ⌜ kind < 10 ⌝ }
+    ensures { λ r. ⌜ r ≡ digitOf column kind ⌝ }
+{
+    (column >> (kind * 4)) % 16
+}
+
+// A row of the table of kinds: the fewest pins, the most, and what the gate does.
+struct Row(usize, usize, Kind);
+
+// What a gate of a kind does, by the kind's c and k.
+fn record_of(kind: usize, c: bool, k: bool) -> Kind
+    ensures { λ r. ⌜ r ≡ recordOf kind c k ⌝ }
+{
+    if kind < 1 {
+        return Kind::Mux;
+    }
+    if kind < 7 {
+        return Kind::Simple { c: c, k: k };
+    }
+    if kind < 9 {
+        return Kind::Parity(k);
+    }
+    Kind::Mux
+}
+
+// A kind's row; no pin count is right for a number that names no kind.
+fn row_of(kind: usize) -> Row
+    ensures { λ r. ⌜ (r .0 ≡ fewest kind) × (r .1 ≡ most kind) × (r .2 ≡ kindOf kind) ⌝ }
+{
+    if kind < 10 {
+        let c = digit(KINDS[2], kind) == 1;
+        let k = digit(KINDS[3], kind) == 1;
+        return Row(
+            digit(KINDS[0], kind),
+            digit(KINDS[1], kind),
+            record_of(kind, c, k),
+        );
+    }
+    Row(1, 0, Kind::Mux)
+}
+
+// The record of a kind's number.
+pub fn kind_of(kind: usize) -> Kind
+    ensures { λ r. ⌜ r ≡ kindOf kind ⌝ }
+{
+    let row = row_of(kind);
+    row.2
+}
+
+// A gate of the file.
+pub fn gate_at(file: &[u8], shape: Shape, number: usize) -> Gate
+    requires { ⌜ Tables (now file) shape × (number < shape .gates) ⌝ }
+    ensures { λ r. ⌜ (r ≡ gateAt (now (file .entry)) shape number) × (r .first < 65536) × (r .count < 256) ⌝ }
+{
+    let at = shape.tables + number * 4;
+    Gate {
+        kind: kind_of(lent::wide(file[at])),
+        first: lent::two_bytes(file, at + 2),
+        count: lent::wide(file[at + 1]),
+    }
+}
+
+// The node that drives a pin.
+pub fn driver_at(file: &[u8], shape: Shape, pin: usize) -> usize
+    requires { ⌜ Tables (now file) shape × (pin < shape .pins) ⌝ }
+    ensures { λ r. ⌜ (r ≡ driverAt (now (file .entry)) shape pin) × (r < 65536) ⌝ }
+{
+    lent::two_bytes(file, shape.tables + shape.gates * 4 + pin * 4)
+}
+
+// A pin's delay.
+pub fn delay_at(file: &[u8], shape: Shape, pin: usize) -> usize
+    requires { ⌜ Tables (now file) shape × (pin < shape .pins) ⌝ }
+    ensures { λ r. ⌜ (r ≡ delayAt (now (file .entry)) shape pin) × (r < 65536) ⌝ }
+{
+    lent::two_bytes(file, shape.tables + shape.gates * 4 + pin * 4 + 2)
+}
+
+// The node of an output.
+pub fn output_at(file: &[u8], shape: Shape, position: usize) -> usize
+    requires { ⌜ Tables (now file) shape × (position < shape .outputs) ⌝ }
+    ensures { λ r. ⌜ (r ≡ outputAt (now (file .entry)) shape position) × (r < 65536) ⌝ }
+{
+    lent::two_bytes(
+        file,
+        shape.tables + shape.gates * 4 + shape.pins * 4 + position * 2,
+    )
+}
+
+// ---- the refusals 1 to 7
+
+// A number lies between two others, both included.
+fn between(low: usize, number: usize, high: usize) -> bool
+    ensures { λ r. ⌜ r ≡ (leb low number && leb number high) ⌝ }
+{
+    if number < low {
+        return false;
+    }
+    number <= high
+}
+
+// What is left of a number, 0 where more is taken than there is.
+fn less(number: usize, taken: usize) -> usize
+    ensures { λ r. ⌜ r ≡ number - taken ⌝ }
+{
+    if number < taken {
+        return 0;
+    }
+    number - taken
+}
+
+// 4G+4P+2Q, of a file that has a trailer.
+fn table_bytes(file: &[u8]) -> usize
+    requires { ⌜ 14 ≤ length (now file) ⌝ }
+    ensures { λ r. ⌜ (r ≡ tableBytes (now (file .entry))) × (r < 4294967296) ⌝ }
+{
+    let trailer = file.len() - 14;
+    let gates = lent::two_bytes(file, trailer + 6);
+    let pins = lent::two_bytes(file, trailer + 8);
+    let outputs = lent::two_bytes(file, trailer + 10);
+    gates * 4 + pins * 4 + outputs * 2
+}
+
+// The counts that the trailer says, and where the tables begin.
+fn shape_of(file: &[u8]) -> Shape
+    requires { ⌜ 14 ≤ length (now file) ⌝ }
+    ensures { λ r. ⌜ r ≡ shapeOf (now (file .entry)) ⌝ }
+{
+    let trailer = file.len() - 14;
+    Shape {
+        inputs: lent::two_bytes(file, trailer + 4),
+        gates: lent::two_bytes(file, trailer + 6),
+        pins: lent::two_bytes(file, trailer + 8),
+        outputs: lent::two_bytes(file, trailer + 10),
+        tables: less(trailer, table_bytes(file)),
+    }
+}
+
+// The first count outside its range: 0 for I, 1 for G, 2 for P, 3 for Q; 4 where each is within.
+fn count_wrong(shape: Shape) -> usize
+    ensures { λ r. ⌜ r ≡ countWrong shape ⌝ }
+{
+    if !between(1, shape.inputs, 64) {
+        return 0;
+    }
+    if 448 < shape.gates {
+        return 1;
+    }
+    if 2048 < shape.pins {
+        return 2;
+    }
+    if !between(1, shape.outputs, 64) {
+        return 3;
+    }
+    4
+}
+
+// Back isn't 4G+4P+2Q, or it exceeds the bytes before the trailer.
+fn back_wrong(file: &[u8]) -> bool
+    requires { ⌜ 14 ≤ length (now file) ⌝ }
+    ensures { λ r. ⌜ r ≡ backWrong (now (file .entry)) ⌝ }
+{
+    let trailer = file.len() - 14;
+    let back = lent::four_bytes(file, trailer);
+    if back != table_bytes(file) {
+        return true;
+    }
+    trailer < back
+}
+
+// A kind can have that many pins; no number of pins is right for a number that names no kind.
+fn pins_fit(kind: usize, count: usize) -> bool
+    ensures { λ r. ⌜ r ≡ (leb (fewest kind) count && leb count (most kind)) ⌝ }
+{
+    let row = row_of(kind);
+    between(row.0, count, row.1)
+}
+
+// How many pins a gate says it has.
+fn count_at(file: &[u8], shape: Shape, gate: usize) -> usize
+    requires { ⌜ Tables (now file) shape × (gate < shape .gates) ⌝ }
+    ensures { λ r. ⌜ (r ≡ countAt (now (file .entry)) shape gate) × (r < 256) ⌝ }
+{
+    lent::wide(file[shape.tables + gate * 4 + 1])
+}
+
+// A gate's kind is unknown, or its pin count or first pin is wrong; `before` is the sum of the pin counts before it.
+fn gate_wrong(file: &[u8], shape: Shape, gate: usize, before: usize) -> bool
+    requires { ⌜ Tables (now file) shape × (gate < shape .gates) × (before ≡ pinsBefore (now file) shape gate) ⌝ }
+    ensures { λ r. ⌜ r ≡ gateWrong (now (file .entry)) shape gate ⌝ }
+{
+    let at = shape.tables + gate * 4;
+    let kind = lent::wide(file[at]);
+    let count = count_at(file, shape, gate);
+    if !pins_fit(kind, count) {
+        return true;
+    }
+    lent::two_bytes(file, at + 2) != before
+}
+
+// The first wrong gate, or G, and the sum of the pin counts before it.
+struct GatePlace {
+    gate: usize,
+    before: usize,
+}
+
+// One pass over the gates, up to the first wrong one.
+fn gate_place(file: &[u8], shape: Shape) -> GatePlace
+    requires { ⌜ Tables (now file) shape × InRange shape ⌝ }
+    ensures { λ r. ⌜ (r .gate ≡ gatePlace (now (file .entry)) shape) × (r .gate ≤ shape .gates) ⌝ }
+    ensures { λ r. ⌜ r .before ≡ pinsBefore (now (file .entry)) shape (r .gate) ⌝ }
+{
+    let mut before = 0;
+    let mut gate = 0;
+    while gate < shape.gates {
+        if gate_wrong(file, shape, gate, before) {
+            return GatePlace {
+                gate: gate,
+                before: before,
+            };
+        }
+        before += count_at(file, shape, gate);
+        gate += 1;
+    }
+    GatePlace {
+        gate: gate,
+        before: before,
+    }
+}
+
+// A pin's driver is not below its gate's node, or its delay is over 999.
+fn pin_wrong(file: &[u8], shape: Shape, node: usize, pin: usize) -> bool
+    requires { ⌜ Tables (now file) shape × (pin < shape .pins) ⌝ }
+    ensures { λ r. ⌜ r ≡ pinWrong (now (file .entry)) shape (node, pin) ⌝ }
+{
+    if node <= driver_at(file, shape, pin) {
+        return true;
+    }
+    999 < delay_at(file, shape, pin)
+}
+
+// The first wrong pin of a gate whose pins begin at `from`, or the pin after its last.
+fn pin_place_of_gate(file: &[u8], shape: Shape, gate: usize, from: usize) -> usize
+    requires { ⌜ Tables (now file) shape × InRange shape × (gate < shape .gates) ⌝ }
+    requires { ⌜ (from ≡ pinsBefore (now file) shape gate) × (from + countAt (now file) shape gate ≤ shape .pins) ⌝ }
+    ensures { λ r. ⌜ r ≡ from + rightPins (now (file .entry)) shape gate ⌝ }
+{
+    let node = shape.inputs + gate;
+    let end = from + count_at(file, shape, gate);
+    let mut pin = from;
+    while pin < end {
+        if pin_wrong(file, shape, node, pin) {
+            return pin;
+        }
+        pin += 1;
+    }
+    pin
+}
+
+// The first wrong pin, or P, of a file whose pin counts sum up to P.
+fn pin_place(file: &[u8], shape: Shape) -> usize
+    requires { ⌜ Tables (now file) shape × InRange shape ⌝ }
+    requires { ⌜ pinsBefore (now file) shape (shape .gates) ≡ shape .pins ⌝ }
+    ensures { λ r. ⌜ r ≡ pinPlace (now (file .entry)) shape ⌝ }
+{
+    let mut from = 0;
+    let mut gate = 0;
+    while gate < shape.gates {
+        let end = from + count_at(file, shape, gate);
+        let pin = pin_place_of_gate(file, shape, gate, from);
+        if pin < end {
+            return pin;
+        }
+        from = end;
+        gate += 1;
+    }
+    from
+}
+
+// An output is not above the one before it, or it is N or more.
+fn output_wrong(file: &[u8], shape: Shape, position: usize) -> bool
+    requires { ⌜ Tables (now file) shape × InRange shape × (position < shape .outputs) ⌝ }
+    ensures { λ r. ⌜ r ≡ outputWrong (now (file .entry)) shape position ⌝ }
+{
+    let node = output_at(file, shape, position);
+    if shape.inputs + shape.gates <= node {
+        return true;
+    }
+    if position < 1 {
+        return false;
+    }
+    node <= output_at(file, shape, position - 1)
+}
+
+// The first wrong output, or Q.
+fn output_place(file: &[u8], shape: Shape) -> usize
+    requires { ⌜ Tables (now file) shape × InRange shape ⌝ }
+    ensures { λ r. ⌜ r ≡ outputPlace (now (file .entry)) shape ⌝ }
+{
+    let mut position = 0;
+    while position < shape.outputs {
+        if output_wrong(file, shape, position) {
+            return position;
+        }
+        position += 1;
+    }
+    position
+}
+
+// The answer for a file that passed checks 1 to 4: all gates before all pins before outputs.
+fn open_tables(file: &[u8], shape: Shape) -> Opened
+    requires { ⌜ Framed (now file) shape ⌝ }
+    ensures { λ r. ⌜ r ≡ openOf (now (file .entry)) ⌝ }
+{
+    let place = gate_place(file, shape);
+    let gate = place.gate;
+    if gate < shape.gates {
+        return Opened::Refused(Refusal::Gate(gate));
+    }
+    if place.before != shape.pins {
+        return Opened::Refused(Refusal::Gate(gate));
+    }
+    let pin = pin_place(file, shape);
+    if pin < shape.pins {
+        return Opened::Refused(Refusal::Pin(pin));
+    }
+    let position = output_place(file, shape);
+    if position < shape.outputs {
+        return Opened::Refused(Refusal::Output(position));
+    }
+    Opened::Accepted(shape)
+}
+
+// The answer for any bytes at all: checks 1 to 7 in the table's order.
+pub fn open(file: &[u8]) -> Opened
+    ensures { λ r. ⌜ r ≡ openOf (now (file .entry)) ⌝ }
+{
+    if file.len() < 14 {
+        return Opened::Refused(Refusal::Short(file.len()));
+    }
+    let version = lent::two_bytes(file, file.len() - 2);
+    if version != 1 {
+        return Opened::Refused(Refusal::Version(version));
+    }
+    let shape = shape_of(file);
+    let which = count_wrong(shape);
+    if which < 4 {
+        return Opened::Refused(Refusal::Count(which));
+    }
+    if back_wrong(file) {
+        return Opened::Refused(Refusal::Back);
+    }
+    open_tables(file, shape)
+}
