@@ -1,0 +1,298 @@
+-- Gate after gate: the slices hold the first nodes of the netlist's values and times, and what a gate gives over these
+-- nodes is its own entry, by the fixpoint equations, since it reads its drivers alone. Assumes nothing.
+use mathlib.Core.Path.{_≡_, refl, sym, ap, ap₂, _∙_, subst}
+use mathlib.Core.Bool.{Bool, true, false}
+use mathlib.Core.List.{List, [], _∷_, _++_, map, List·Memᴰ}
+use mathlib.Core.Logic.{_⊎_, inl, inr}
+use Prim.Native.Nat.{ℕ, zero, suc, _+_, _≤_, _<_}
+use native.Mathlib.Omega.{arith}
+use lib.Dec.{T, eqb, ltb, ltb→lt, nltb→le, not-T}
+use lib.ListN.{
+  length,
+  getD,
+  take,
+  drop,
+  set,
+  replicate,
+  length-map,
+  length-take,
+  length-replicate,
+  List·getD-map,
+  List·getD-eq-default,
+}
+use lib.Seq.{getD-take, length-take-le}
+use Rattle.basics.proofs.Truth.{decide}
+use Rattle.netlist.specs.declared.Shape.{Shape}
+use Rattle.netlist.specs.declared.Gate.{Gate}
+use Rattle.netlist.specs.declared.Kind.{Kind}
+use Rattle.netlist.specs.Netlist.{Cell, Pin, nodes, takes}
+use Rattle.netlist.specs.Kinds.{bit}
+use Rattle.netlist.specs.File.{gateAt, cellAt, cellOf, netlistAt}
+use Rattle.netlist.specs.Holds.{Holds}
+use Rattle.netlist.proofs.Entries.{gate-kind, gate-first, gate-count, pins-length, node-has, node-count, net-inputs}
+use Rattle.settle.specs.declared.Signal.{Signal}
+use Rattle.settle.specs.Settling.{readyAt, valuesOf, valueOf, timesOf, timeOf, atZero}
+use Rattle.settle.specs.Promise.{bits}
+use Rattle.settle.specs.Steps.{pinsAt, pinValue, pinReady, gateSignal, Wired, Begun, Done}
+use Rattle.settle.proofs.Argument.{settles-cong, gateValue-cong}
+use Rattle.settle.proofs.Nodes.{
+  laid,
+  runs,
+  values-length,
+  times-length,
+  values-begin,
+  times-begin,
+  times-small,
+}
+use Rattle.settle.proofs.Filling.{Filled, filled-starts, filled-done, filled-length, filled-more, filled-ends}
+
+-- ---- lists
+
+take-map : {A B : Type 0} (f : A → B) (n : ℕ) (l : List A) → take n (map f l) ≡ map f (take n l)
+take-map f zero l = refl
+take-map f (suc n) [] = refl
+take-map f (suc n) (x ∷ l) = ap (λ t. f x ∷ t) (take-map f n l)
+
+-- a bound on all entries bounds those of the first n
+take-within : (bound n : ℕ) (l : List ℕ) → ((k : ℕ) → getD l k 0 ≤ bound) → (k : ℕ) → getD (take n l) k 0 ≤ bound
+take-within bound n l h k = go (decide (ltb k n))
+  where
+    go : T (ltb k n) ⊎ (T (ltb k n) → ⊥) → getD (take n l) k 0 ≤ bound
+    go (inl t) = let e = getD-take n l k 0 (ltb→lt k n t) in let b = h k in omega arith
+    go (inr f) =
+        let a = nltb→le k n (not-T (ltb k n) f) in
+        let b : length (take n l) ≤ k = omega (arith, length-take n l) in
+        let e = List·getD-eq-default (take n l) 0 {n = k} b in
+        omega arith
+
+-- a stored Bool reads back
+bit-back : (b : Bool) → eqb (bit b) 1 ≡ b
+bit-back true = refl
+bit-back false = refl
+
+-- ---- the netlist's lists, as the slices hold them
+
+-- all nodes' values and times
+abbrev pub allValues : List ℕ → Shape → List Bool → List ℕ
+allValues file shape vector = map bit (valuesOf (netlistAt file shape) vector)
+
+abbrev pub allTimes : List ℕ → Shape → List Bool → List ℕ
+allTimes file shape vector = timesOf (netlistAt file shape) (atZero (netlistAt file shape)) vector
+
+module _ {file : List ℕ} {shape : Shape} (h : Holds file shape) (vector : List Bool)
+    (long : length vector ≡ shape .inputs) where
+  vector-long : length vector ≡ netlistAt file shape .inputs
+  vector-long = long ∙ sym (net-inputs file shape)
+
+  zeros-long : length (atZero (netlistAt file shape)) ≡ netlistAt file shape .inputs
+  zeros-long = length-replicate (netlistAt file shape .inputs) 0
+
+  pub all-values-length : length (allValues file shape vector) ≡ shape .inputs + shape .gates
+  all-values-length =
+      length-map (valuesOf (netlistAt file shape) vector) bit
+      ∙ values-length (netlistAt file shape) vector vector-long
+      ∙ node-count file shape
+
+  pub all-times-length : length (allTimes file shape vector) ≡ shape .inputs + shape .gates
+  all-times-length =
+      times-length (netlistAt file shape) (atZero (netlistAt file shape)) vector zeros-long ∙ node-count file shape
+
+  -- the inputs come first
+  pub all-values-begin : take (shape .inputs) (allValues file shape vector) ≡ map bit vector
+  all-values-begin =
+      take-map bit (shape .inputs) (valuesOf (netlistAt file shape) vector)
+      ∙ ap (map bit)
+      (ap (λ (n : ℕ). take n (valuesOf (netlistAt file shape) vector)) (sym long)
+      ∙ values-begin (netlistAt file shape) vector)
+
+  pub all-times-begin : take (shape .inputs) (allTimes file shape vector) ≡ replicate (shape .inputs) 0
+  all-times-begin =
+      ap (λ (n : ℕ). take n (allTimes file shape vector)) (sym (net-inputs file shape) ∙ sym zeros-long)
+      ∙ times-begin (netlistAt file shape) (atZero (netlistAt file shape)) vector
+      ∙ ap (λ (n : ℕ). replicate n 0) (net-inputs file shape)
+
+  -- one gate, over the nodes before it
+  module _ (number : ℕ) (within : number < shape .gates) where
+    abbrev doneValues : List ℕ
+    doneValues = take (shape .inputs + number) (allValues file shape vector)
+
+    abbrev doneTimes : List ℕ
+    doneTimes = take (shape .inputs + number) (allTimes file shape vector)
+
+    member : List·Memᴰ {A = ℕ × Cell} (shape .inputs + number, cellAt file shape number) (nodes (netlistAt file shape))
+    member = node-has file shape number within
+
+    driver-below : (p : Pin) → List·Memᴰ p (cellAt file shape number .pins) → p .driver < shape .inputs + number
+    driver-below p i = laid (netlistAt file shape) (h .valid) .below _ _ member p i
+
+    pin-value : (p : Pin) → List·Memᴰ p (cellAt file shape number .pins) →
+        pinValue doneValues p ≡ valueOf (netlistAt file shape) vector (p .driver)
+    pin-value p i =
+        ap (λ (v : ℕ). eqb v 1)
+        (getD-take (shape .inputs + number) (allValues file shape vector) (p .driver) 0 (driver-below p i)
+        ∙ List·getD-map bit (valuesOf (netlistAt file shape) vector) (p .driver) false)
+        ∙ bit-back (valueOf (netlistAt file shape) vector (p .driver))
+
+    pin-ready : (p : Pin) → List·Memᴰ p (cellAt file shape number .pins) →
+        pinReady doneTimes p
+        ≡ readyAt (timeOf (netlistAt file shape) (atZero (netlistAt file shape)) vector) p
+    pin-ready p i =
+        ap (λ (t : ℕ). t + p .delay)
+        (getD-take (shape .inputs + number) (allTimes file shape vector) (p .driver) 0 (driver-below p i))
+
+    -- what the gate gives is the netlist's value and time at its node
+    pub gate-settled : (gate : Gate) → gate ≡ gateAt file shape number →
+        gateSignal doneValues doneTimes (gate .kind) (pinsAt file shape (gate .first) (gate .count))
+        ≡ record {
+          value = valueOf (netlistAt file shape) vector (shape .inputs + number);
+          at =
+              timeOf (netlistAt file shape) (atZero (netlistAt file shape)) vector (shape .inputs + number);
+        }
+    unfolding gateSignal pinsAt cellAt cellOf
+    gate-settled gate e =
+        let facts =
+        runs (netlistAt file shape) (h .valid) (atZero (netlistAt file shape)) zeros-long vector vector-long
+        in
+        ap (λ (g : Gate). gateSignal doneValues doneTimes (g .kind) (pinsAt file shape (g .first) (g .count))) e
+        ∙ ap₂ (λ (v : Bool) (t : ℕ). record { value = v; at = t })
+        (gateValue-cong (pinValue doneValues) (λ (p : Pin). valueOf (netlistAt file shape) vector (p .driver))
+        (cellAt file shape number .kind) (cellAt file shape number .pins) pin-value
+        ∙ sym (facts .value-fixed _ _ member))
+        (settles-cong (pinValue doneValues) (λ (p : Pin). valueOf (netlistAt file shape) vector (p .driver))
+        (pinReady doneTimes) (readyAt (timeOf (netlistAt file shape) (atZero (netlistAt file shape)) vector))
+        (cellAt file shape number .kind) (cellAt file shape number .pins) pin-value pin-ready
+        ∙ sym (facts .time-fixed _ _ member))
+
+    -- a gate of the file has the pins that its kind takes
+    pub gate-takes : (gate : Gate) → gate ≡ gateAt file shape number → T (takes (gate .kind) (gate .count))
+    gate-takes gate e =
+        subst (λ (g : Gate). T (takes (g .kind) (g .count))) (sym e)
+        (subst (λ (n : ℕ). T (takes (gateAt file shape number .kind) n))
+        (pins-length file shape number ∙ sym (gate-count file shape number))
+        (subst (λ (k : Kind). T (takes k (length (cellAt file shape number .pins)))) (sym (gate-kind file shape number))
+        (laid (netlistAt file shape) (h .valid) .taken _ _ member)))
+
+    -- and they are driven from the nodes before it
+    pub gate-wired : (gate : Gate) → gate ≡ gateAt file shape number →
+        Wired file shape (gate .first) (gate .count) doneValues doneTimes
+    gate-wired gate e =
+        let first = ap (λ (g : Gate). g .first) e ∙ gate-first file shape number in
+        let count = ap (λ (g : Gate). g .count) e ∙ gate-count file shape number in
+        let a : length doneValues ≡ shape .inputs + number =
+        length-take-le (shape .inputs + number) (allValues file shape vector) (omega (arith, all-values-length))
+        in
+        let b : length doneTimes ≡ shape .inputs + number =
+        length-take-le (shape .inputs + number) (allTimes file shape vector) (omega (arith, all-times-length))
+        in
+        record {
+          tables = h .tables;
+          within = omega (arith, h .pins-within number within);
+          drivers = λ pin l u. omega (arith, h .drivers-below number pin within (omega arith) (omega arith));
+          paired = b ∙ sym a;
+          early =
+              take-within 447552 (shape .inputs + number) (allTimes file shape vector)
+              (times-small (netlistAt file shape) (h .valid) vector);
+        }
+
+-- ---- the loop's invariant: the inputs' nodes and those of the first gates are done
+
+pub record Gating (file : List ℕ) (shape : Shape) (values₀ times₀ values times : List ℕ) (number : ℕ) : Type 0 where
+  pub upto : number ≤ shape .gates
+  pub values-done :
+      Filled (allValues file shape (bits (take (shape .inputs) values₀))) values₀ values (shape .inputs + number)
+  pub times-done :
+      Filled (allTimes file shape (bits (take (shape .inputs) values₀))) times₀ times (shape .inputs + number)
+
+module _ {file : List ℕ} {shape : Shape} {values₀ times₀ : List ℕ} (h : Holds file shape)
+    (b : Begun shape values₀ times₀) where
+  abbrev vector : List Bool
+  vector = bits (take (shape .inputs) values₀)
+
+  vector-is : length vector ≡ shape .inputs
+  vector-is =
+      length-map (take (shape .inputs) values₀) (λ byte. eqb byte 1)
+      ∙ length-take-le (shape .inputs) values₀ (omega (arith, b .values-room))
+
+  pub gating-starts : Gating file shape values₀ times₀ values₀ times₀ 0
+  gating-starts =
+      let z : shape .inputs ≡ shape .inputs + 0 = omega arith in
+      let a = all-values-length h vector vector-is in
+      let t = all-times-length h vector vector-is in
+      record {
+        upto = omega arith;
+        values-done =
+            subst (Filled (allValues file shape vector) values₀ values₀) z
+            (filled-starts values₀ (shape .inputs) (omega arith) (omega (arith, b .values-room))
+            (b .inputs ∙ sym (all-values-begin h vector vector-is)));
+        times-done =
+            subst (Filled (allTimes file shape vector) times₀ times₀) z
+            (filled-starts times₀ (shape .inputs) (omega arith) (omega (arith, b .times-room))
+            (b .zeros ∙ sym (all-times-begin h vector vector-is)));
+      }
+
+  module _ {values times : List ℕ} {number : ℕ} (g : Gating file shape values₀ times₀ values times number) where
+    pub gating-values : length values ≡ length values₀
+    gating-values = filled-length (g .values-done)
+
+    pub gating-times : length times ≡ length times₀
+    gating-times = filled-length (g .times-done)
+
+    module _ (within : number < shape .gates) (gate : Gate) (e : gate ≡ gateAt file shape number) where
+      pub gating-wired :
+          Wired file shape (gate .first) (gate .count)
+          (take (shape .inputs + number) values)
+          (take (shape .inputs + number) times)
+      gating-wired =
+          rw (filled-done (g .values-done), filled-done (g .times-done))
+          (gate-wired h vector vector-is number within gate e)
+
+      pub gating-takes : T (takes (gate .kind) (gate .count))
+      gating-takes = gate-takes h vector vector-is number within gate e
+
+      -- one gate more
+      pub gating-more : (signal : Signal) (stored : ℕ) →
+          signal
+          ≡ gateSignal (take (shape .inputs + number) values) (take (shape .inputs + number) times) (gate .kind)
+          (pinsAt file shape (gate .first) (gate .count)) →
+          stored ≡ bit (signal .value) →
+          Gating file shape values₀ times₀
+          (set values (shape .inputs + number) stored)
+          (set times (shape .inputs + number) (signal .at))
+          (number + 1)
+      gating-more signal stored s q =
+          let n : shape .inputs + number + 1 ≡ shape .inputs + (number + 1) = omega arith in
+          let a = all-values-length h vector vector-is in
+          let t = all-times-length h vector vector-is in
+          let is =
+          s
+          ∙ ap₂ (λ (x y : List ℕ). gateSignal x y (gate .kind) (pinsAt file shape (gate .first) (gate .count)))
+          (filled-done (g .values-done))
+          (filled-done (g .times-done))
+          ∙ gate-settled h vector vector-is number within gate e
+          in
+          record {
+            upto = omega arith;
+            values-done =
+                subst (Filled (allValues file shape vector) values₀ (set values (shape .inputs + number) stored)) n
+                (filled-more (g .values-done) stored 0 (omega arith)
+                (q ∙ ap (λ (x : Signal). bit (x .value)) is
+                ∙ sym (List·getD-map bit (valuesOf (netlistAt file shape) vector) (shape .inputs + number) false)));
+            times-done =
+                subst (Filled (allTimes file shape vector) times₀ (set times (shape .inputs + number) (signal .at))) n
+                (filled-more (g .times-done) (signal .at) 0 (omega arith) (ap (λ (x : Signal). x .at) is));
+          }
+
+    -- all gates
+    all-done : shape .gates ≤ number → shape .inputs + number ≡ shape .inputs + shape .gates
+    all-done l = omega (arith, g .upto)
+
+    pub gating-ends : shape .gates ≤ number → Done file shape vector values₀ times₀ values times
+    gating-ends l =
+        record {
+          values-are =
+              filled-ends (g .values-done) (omega (arith, all-values-length h vector vector-is))
+              ∙ ap (λ (n : ℕ). allValues file shape vector ++ drop n values₀) (all-done l);
+          times-are =
+              filled-ends (g .times-done) (omega (arith, all-times-length h vector vector-is))
+              ∙ ap (λ (n : ℕ). allTimes file shape vector ++ drop n times₀) (all-done l);
+        }

@@ -1,0 +1,332 @@
+-- Values, times and tops of all nodes of a valid netlist are what the rules say: the fixpoint equations at each gate,
+-- an input's entries, and no time beyond its top, by strong induction on the node. Laws: laid and runs, the facts in
+-- two records (Laid, Runs) that the formula's theorem reads; input-value, input-at, input-top; values-length,
+-- times-length, tops-length; values-begin, times-begin; input-or-gate; tops-within, times-within (arrivals of at most
+-- `late`), and with all arrivals zero tops-small, times-small, circuit-small (at most 448 * 999); circuit-late. Assumes
+-- nothing.
+use mathlib.Core.Path.{_≡_, refl, sym, ap, _∙_, subst}
+use mathlib.Core.Bool.{Bool, false}
+use mathlib.Core.List.{List, [], List·Memᴰ}
+use mathlib.Core.Logic.{_⊎_, inl, inr}
+use Prim.Native.Nat.{ℕ, zero, suc, _+_, _-_, _*_, _≤_, _<_}
+use native.Mathlib.Omega.{arith}
+use lib.Dec.{T, leb, ltb, ltb→lt, nltb→le, not-T}
+use lib.ListN.{length, getD, take, length-replicate, getD-replicate, List·getD-eq-default}
+use Rattle.basics.specs.Lists.{any}
+use Rattle.basics.proofs.Truth.{decide}
+use Rattle.basics.proofs.Lists.{all-at}
+use Rattle.netlist.specs.Netlist.{Netlist, Cell, Pin, nodes, nodeCount, takes, gateFits, valid}
+use Rattle.netlist.proofs.Ranges.{numbered-has, numbered-only}
+use Rattle.netlist.proofs.Valid.{valid-gates, valid-gates-few, fits-takes, fits-below, fits-small}
+use Rattle.netlist.specs.declared.Kind.the-variants.{Mux}
+use Rattle.settle.specs.Settling.{
+  last,
+  gateValue,
+  settles,
+  readyAt,
+  valuesOf,
+  valueOf,
+  timesOf,
+  timeOf,
+  topsOf,
+  topOf,
+  atZero,
+  circuitTime,
+}
+use Rattle.settle.proofs.Cubes.{settles-last}
+use Rattle.settle.proofs.Argument.{
+  settles-cong,
+  gateValue-cong,
+  last-cong,
+  last-mono,
+  last-within,
+  last-late,
+}
+use Rattle.settle.proofs.Grow.{grow-length, grow-keeps, grow-begins, grow-fixed}
+
+-- the gates gs with their nodes are those from I up to N, each takes its pins, and each pin is driven from below
+pub record Laid (I N : ℕ) (gs : List (ℕ × Cell)) : Type 0 where
+  pub cover : (n : ℕ) → I ≤ n → n < N → (cell : Cell) × List·Memᴰ (n, cell) gs
+  pub low : (n : ℕ) (cell : Cell) → List·Memᴰ (n, cell) gs → I ≤ n
+  pub high : (n : ℕ) (cell : Cell) → List·Memᴰ (n, cell) gs → n < N
+  pub below : (n : ℕ) (cell : Cell) → List·Memᴰ (n, cell) gs → (p : Pin) → List·Memᴰ p (cell .pins) → p .driver < n
+  pub small : (n : ℕ) (cell : Cell) → List·Memᴰ (n, cell) gs → (p : Pin) → List·Memᴰ p (cell .pins) → p .delay ≤ 999
+  pub taken : (n : ℕ) (cell : Cell) → List·Memᴰ (n, cell) gs → T (takes (cell .kind) (length (cell .pins)))
+
+-- values, times and tops of the nodes are what the rules say
+pub record Runs (I N : ℕ) (gs : List (ℕ × Cell)) (value : ℕ → Bool) (time top : ℕ → ℕ) : Type 0 where
+  pub value-fixed : (n : ℕ) (cell : Cell) → List·Memᴰ (n, cell) gs →
+      value n ≡ gateValue (λ (p : Pin). value (p .driver)) (cell .kind) (cell .pins)
+  pub time-fixed : (n : ℕ) (cell : Cell) → List·Memᴰ (n, cell) gs →
+      time n ≡ settles (λ (p : Pin). value (p .driver)) (readyAt time) (cell .kind) (cell .pins)
+  pub top-fixed : (n : ℕ) (cell : Cell) → List·Memᴰ (n, cell) gs → top n ≡ last (readyAt top) (cell .pins)
+  pub input-time : (n : ℕ) → n < I → time n ≡ top n
+  pub time-top : (n : ℕ) → n < N → time n ≤ top n
+
+-- one gate's part of each list
+abbrev valueStep : Cell → (ℕ → Bool) → Bool
+valueStep cell value = gateValue (λ (p : Pin). value (p .driver)) (cell .kind) (cell .pins)
+
+abbrev timeStep : (ℕ → Bool) → Cell → (ℕ → ℕ) → ℕ
+timeStep value cell time = settles (λ (p : Pin). value (p .driver)) (readyAt time) (cell .kind) (cell .pins)
+
+abbrev topStep : Cell → (ℕ → ℕ) → ℕ
+topStep cell top = last (readyAt top) (cell .pins)
+
+-- how many nodes each list has
+pub values-length : (net : Netlist) (vector : List Bool) → length vector ≡ net .inputs →
+    length (valuesOf net vector) ≡ nodeCount net
+unfolding valuesOf
+values-length net vector e = let f = grow-length false valueStep vector (net .gates) in omega arith
+
+pub times-length : (net : Netlist) (arrivals : List ℕ) (vector : List Bool) → length arrivals ≡ net .inputs →
+    length (timesOf net arrivals vector) ≡ nodeCount net
+unfolding timesOf
+times-length net arrivals vector e =
+    let f = grow-length 0 (timeStep (valueOf net vector)) arrivals (net .gates) in omega arith
+
+pub tops-length : (net : Netlist) (arrivals : List ℕ) → length arrivals ≡ net .inputs →
+    length (topsOf net arrivals) ≡ nodeCount net
+unfolding topsOf
+tops-length net arrivals e = let f = grow-length 0 topStep arrivals (net .gates) in omega arith
+
+-- the values begin with the vector
+pub values-begin : (net : Netlist) (vector : List Bool) → take (length vector) (valuesOf net vector) ≡ vector
+unfolding valuesOf
+values-begin net vector = grow-begins false valueStep vector (net .gates)
+
+-- the times begin with the arrivals
+pub times-begin : (net : Netlist) (arrivals : List ℕ) (vector : List Bool) →
+    take (length arrivals) (timesOf net arrivals vector) ≡ arrivals
+unfolding timesOf
+times-begin net arrivals vector = grow-begins 0 (timeStep (valueOf net vector)) arrivals (net .gates)
+
+-- an input has the vector's value
+pub input-value : (net : Netlist) (vector : List Bool) → length vector ≡ net .inputs → (n : ℕ) → n < net .inputs →
+    valueOf net vector n ≡ getD vector n false
+unfolding valuesOf
+input-value net vector e n h = grow-keeps false valueStep vector (net .gates) n (omega arith)
+
+-- an input settles at its arrival
+pub input-at : (net : Netlist) (arrivals : List ℕ) (vector : List Bool) → length arrivals ≡ net .inputs →
+    (n : ℕ) → n < net .inputs → timeOf net arrivals vector n ≡ getD arrivals n 0
+unfolding timesOf
+input-at net arrivals vector e n h =
+    grow-keeps 0 (timeStep (valueOf net vector)) arrivals (net .gates) n (omega arith)
+
+-- and its top is that
+pub input-top : (net : Netlist) (arrivals : List ℕ) → length arrivals ≡ net .inputs → (n : ℕ) → n < net .inputs →
+    topOf net arrivals n ≡ getD arrivals n 0
+unfolding topsOf
+input-top net arrivals e n h = grow-keeps 0 topStep arrivals (net .gates) n (omega arith)
+
+-- a node is an input or a gate
+pub input-or-gate : (net : Netlist) (n : ℕ) → n < nodeCount net →
+    (n < net .inputs) ⊎ ((cell : Cell) × List·Memᴰ (n, cell) (nodes net))
+input-or-gate net n h = go (decide (ltb n (net .inputs)))
+  where
+    at : net .inputs ≤ n → (cell : Cell) × List·Memᴰ (n, cell) (nodes net)
+    at l =
+        let d : Cell = record { kind = Mux; pins = [] } in
+        let e : net .inputs + (n - net .inputs) ≡ n = omega arith in (
+          getD (net .gates) (n - net .inputs) d,
+          subst (λ (k : ℕ). List·Memᴰ (k, getD (net .gates) (n - net .inputs) d) (nodes net)) e
+              (numbered-has (net .inputs) (net .gates) (n - net .inputs) d (omega arith)),
+        )
+
+    go : T (ltb n (net .inputs)) ⊎ (T (ltb n (net .inputs)) → ⊥) →
+        (n < net .inputs) ⊎ ((cell : Cell) × List·Memᴰ (n, cell) (nodes net))
+    go (inl t) = inl (ltb→lt n (net .inputs) t)
+    go (inr f) = inr (at (nltb→le n (net .inputs) (not-T (ltb n (net .inputs)) f)))
+
+-- what holds of the inputs, and of each gate whose drivers have it, holds of all nodes
+by-nodes : (net : Netlist) → T (valid net) → (P : ℕ → Type 0) → ((n : ℕ) → n < net .inputs → P n) →
+    ((n : ℕ) (cell : Cell) → List·Memᴰ (n, cell) (nodes net) →
+    ((p : Pin) → List·Memᴰ p (cell .pins) → P (p .driver)) → P n) → (n : ℕ) → n < nodeCount net → P n
+by-nodes net v P inputs gates n h = upto (suc n) n (omega arith) h
+  where
+    upto : (m n : ℕ) → n < m → n < nodeCount net → P n
+    upto zero n l h = absurd (omega arith)
+    upto (suc m) n l h = go (input-or-gate net n h) (λ k a b. upto m k a b)
+      where
+        go : (n < net .inputs) ⊎ ((cell : Cell) × List·Memᴰ (n, cell) (nodes net)) →
+            ((k : ℕ) → k < m → k < nodeCount net → P k) → P n
+        go (inl a) r = inputs n a
+        go (inr w) r =
+            gates n (w .0) (w .1) λ p i.
+            let b = fits-below (n, w .0) (all-at gateFits (nodes net) (valid-gates net v) (n, w .0) (w .1)) p i in
+            r (p .driver) (omega arith) (omega arith)
+
+module _ (net : Netlist) (v : T (valid net)) where
+  fits : (n : ℕ) (cell : Cell) → List·Memᴰ (n, cell) (nodes net) → T (gateFits (n, cell))
+  fits n cell m = all-at gateFits (nodes net) (valid-gates net v) (n, cell) m
+
+  node-range : (n : ℕ) (cell : Cell) → List·Memᴰ (n, cell) (nodes net) → (net .inputs ≤ n) × (n < nodeCount net)
+  node-range n cell m =
+      let w = numbered-only (net .inputs) (net .gates) (record { kind = Mux; pins = [] }) (n, cell) m in
+      let e = ap (λ x. x .0) (w .2) in
+      (omega (arith, w .1), omega (arith, w .1))
+
+  -- the shape of a valid netlist
+  pub laid : Laid (net .inputs) (nodeCount net) (nodes net)
+  laid =
+      record {
+        cover = covered;
+        low = λ n cell m. node-range n cell m .0;
+        high = λ n cell m. node-range n cell m .1;
+        below = λ n cell m p i. fits-below (n, cell) (fits n cell m) p i;
+        small = λ n cell m p i. fits-small (n, cell) (fits n cell m) p i;
+        taken = λ n cell m. fits-takes (n, cell) (fits n cell m);
+      }
+    where
+      covered : (n : ℕ) → net .inputs ≤ n → n < nodeCount net → (cell : Cell) × List·Memᴰ (n, cell) (nodes net)
+      covered n l h = go (input-or-gate net n h)
+        where
+          go : (n < net .inputs) ⊎ ((cell : Cell) × List·Memᴰ (n, cell) (nodes net)) →
+              (cell : Cell) × List·Memᴰ (n, cell) (nodes net)
+          go (inl a) = absurd (omega arith)
+          go (inr w) = w
+
+  -- a gate's value, from its drivers' values
+  value-fixed : (vector : List Bool) → length vector ≡ net .inputs → (n : ℕ) (cell : Cell) →
+      List·Memᴰ (n, cell) (nodes net) →
+      valueOf net vector n ≡ gateValue (λ (p : Pin). valueOf net vector (p .driver)) (cell .kind) (cell .pins)
+  unfolding valuesOf
+  value-fixed vector e n cell m =
+      grow-fixed false valueStep
+      (λ cell f h q.
+      gateValue-cong (λ (p : Pin). f (p .driver)) (λ (p : Pin). h (p .driver)) (cell .kind) (cell .pins) q)
+      vector (net .gates) (net .inputs) (sym e) (valid-gates net v) n cell m
+
+  module _ (arrivals : List ℕ) (e : length arrivals ≡ net .inputs) where
+    -- a gate's top, from its drivers' tops
+    top-fixed : (n : ℕ) (cell : Cell) → List·Memᴰ (n, cell) (nodes net) →
+        topOf net arrivals n ≡ last (readyAt (topOf net arrivals)) (cell .pins)
+    unfolding topsOf
+    top-fixed n cell m =
+        grow-fixed 0 topStep
+        (λ cell f h q. last-cong (readyAt f) (readyAt h) (cell .pins) (λ p i. ap (λ t. t + p .delay) (q p i)))
+        arrivals (net .gates) (net .inputs) (sym e) (valid-gates net v) n cell m
+
+    -- a gate's time, from its drivers' values and times
+    time-fixed : (vector : List Bool) (n : ℕ) (cell : Cell) → List·Memᴰ (n, cell) (nodes net) →
+        timeOf net arrivals vector n
+        ≡ settles (λ (p : Pin). valueOf net vector (p .driver)) (readyAt (timeOf net arrivals vector)) (cell .kind)
+        (cell .pins)
+    unfolding timesOf
+    time-fixed vector n cell m =
+        grow-fixed 0 (timeStep (valueOf net vector))
+        (λ cell f h q.
+        settles-cong (λ (p : Pin). valueOf net vector (p .driver)) (λ (p : Pin). valueOf net vector (p .driver))
+        (readyAt f) (readyAt h) (cell .kind) (cell .pins) (λ p i. refl) (λ p i. ap (λ t. t + p .delay) (q p i)))
+        arrivals (net .gates) (net .inputs) (sym e) (valid-gates net v) n cell m
+
+    time-top : (vector : List Bool) (n : ℕ) → n < nodeCount net → timeOf net arrivals vector n ≤ topOf net arrivals n
+    time-top vector =
+        by-nodes net v (λ n. timeOf net arrivals vector n ≤ topOf net arrivals n)
+        (λ n h. let a = input-at net arrivals vector e n h in let b = input-top net arrivals e n h in omega arith)
+        (λ n cell m r.
+        let a = time-fixed vector n cell m in
+        let b = top-fixed n cell m in
+        let c =
+        settles-last (λ (p : Pin). valueOf net vector (p .driver)) (readyAt (timeOf net arrivals vector)) (cell .kind)
+        (cell .pins)
+        in
+        let d =
+        last-mono (readyAt (timeOf net arrivals vector)) (readyAt (topOf net arrivals)) (cell .pins)
+        (λ p i. let q = r p i in omega arith)
+        in
+        omega arith)
+
+    -- the fixpoint equations, and times against tops
+    pub runs : (vector : List Bool) → length vector ≡ net .inputs →
+        Runs (net .inputs) (nodeCount net) (nodes net) (valueOf net vector) (timeOf net arrivals vector)
+        (topOf net arrivals)
+    runs vector f =
+        record {
+          value-fixed = value-fixed vector f;
+          time-fixed = time-fixed vector;
+          top-fixed = top-fixed;
+          input-time = λ n h. input-at net arrivals vector e n h ∙ sym (input-top net arrivals e n h);
+          time-top = time-top vector;
+        }
+
+    -- a top grows by at most 999 a gate
+    top-grows : (late : ℕ) → ((n : ℕ) → n < net .inputs → getD arrivals n 0 ≤ late) → (n : ℕ) → n < nodeCount net →
+        topOf net arrivals n ≤ late + (suc n - net .inputs) * 999
+    top-grows late inputs =
+        by-nodes net v (λ n. topOf net arrivals n ≤ late + (suc n - net .inputs) * 999)
+        (λ n h. let a = input-top net arrivals e n h in let b = inputs n h in omega arith)
+        (λ n cell m r.
+        let a = top-fixed n cell m in
+        let low = node-range n cell m .0 in
+        let b =
+        last-within (readyAt (topOf net arrivals)) (cell .pins) (late + (suc n - net .inputs) * 999)
+        (λ p i.
+        let q = r p i in
+        let s = laid .small n cell m p i in
+        let l = laid .below n cell m p i in
+        omega arith)
+        in
+        omega arith)
+
+    -- so with arrivals of at most `late` no top is above late + 448 * 999
+    pub tops-within : (late : ℕ) → ((n : ℕ) → n < net .inputs → getD arrivals n 0 ≤ late) → (n : ℕ) →
+        topOf net arrivals n ≤ late + 447552
+    tops-within late inputs n = go (decide (ltb n (nodeCount net)))
+      where
+        go : T (ltb n (nodeCount net)) ⊎ (T (ltb n (nodeCount net)) → ⊥) → topOf net arrivals n ≤ late + 447552
+        go (inl t) =
+            let h = ltb→lt n (nodeCount net) t in
+            let a = top-grows late inputs n h in
+            let b = valid-gates-few net v in
+            omega arith
+        go (inr f) =
+            let h = nltb→le n (nodeCount net) (not-T (ltb n (nodeCount net)) f) in
+            let l : length (topsOf net arrivals) ≤ n = omega (arith, tops-length net arrivals e) in
+            let z = List·getD-eq-default (topsOf net arrivals) 0 {n = n} l in
+            omega arith
+
+    -- nor any time
+    pub times-within : (late : ℕ) → ((n : ℕ) → n < net .inputs → getD arrivals n 0 ≤ late) → (vector : List Bool) →
+        (n : ℕ) → timeOf net arrivals vector n ≤ late + 447552
+    times-within late inputs vector n = go (decide (ltb n (nodeCount net)))
+      where
+        go : T (ltb n (nodeCount net)) ⊎ (T (ltb n (nodeCount net)) → ⊥) →
+            timeOf net arrivals vector n ≤ late + 447552
+        go (inl t) =
+            let a = time-top vector n (ltb→lt n (nodeCount net) t) in
+            let b = tops-within late inputs n in
+            omega arith
+        go (inr f) =
+            let h = nltb→le n (nodeCount net) (not-T (ltb n (nodeCount net)) f) in
+            let l : length (timesOf net arrivals vector) ≤ n = omega (arith, times-length net arrivals vector e) in
+            let z = List·getD-eq-default (timesOf net arrivals vector) 0 {n = n} l in
+            omega arith
+
+  -- ---- all arrivals zero: "An input settles at 0."
+
+  zero-arrival : (n : ℕ) → n < net .inputs → getD (atZero net) n 0 ≤ 0
+  zero-arrival n h = let e = getD-replicate {A = ℕ} (net .inputs) n 0 0 h in omega arith
+
+  -- no top is above 448 * 999
+  pub tops-small : (n : ℕ) → topOf net (atZero net) n ≤ 447552
+  tops-small n =
+      let b = tops-within (atZero net) (length-replicate (net .inputs) 0) 0 zero-arrival n in omega arith
+
+  -- nor any time
+  pub times-small : (vector : List Bool) (n : ℕ) → timeOf net (atZero net) vector n ≤ 447552
+  times-small vector n =
+      let b = times-within (atZero net) (length-replicate (net .inputs) 0) 0 zero-arrival vector n in omega arith
+
+  -- nor the circuit's
+  pub circuit-small : (vector : List Bool) → circuitTime net (atZero net) vector ≤ 447552
+  unfolding circuitTime
+  circuit-small vector =
+      last-within (timeOf net (atZero net) vector) (net .outputs) 447552 (λ o m. times-small vector o)
+
+-- the circuit settles at t+1 or later exactly when some output does
+pub circuit-late : (net : Netlist) (arrivals : List ℕ) (vector : List Bool) (t : ℕ) →
+    leb (suc t) (circuitTime net arrivals vector) ≡ any (λ o. leb (suc t) (timeOf net arrivals vector o)) (net .outputs)
+unfolding circuitTime
+circuit-late net arrivals vector t = last-late (timeOf net arrivals vector) t (net .outputs)

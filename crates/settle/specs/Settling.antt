@@ -1,0 +1,96 @@
+-- Document 01's section "Settling", sentence by sentence. Interface: all of it.
+use mathlib.Core.Bool.{Bool, true, false, not, Bool·beq, cond}
+use mathlib.Core.List.{List, [], _∷_, _++_, map}
+use Prim.Native.Nat.{ℕ, zero, suc, _+_, max, min}
+use lib.ListN.{getD, replicate}
+use Rattle.basics.specs.Lists.{any}
+use Rattle.netlist.specs.declared.Kind.{Kind}
+use Rattle.netlist.specs.declared.Kind.the-variants.{Simple, Parity, Mux}
+use Rattle.netlist.specs.Netlist.{Netlist, Cell, Pin}
+
+-- ---- one gate, over any kind of pins: what `value` a pin has, and when it is `ready`
+
+module _ {P : Type 0} (value : P → Bool) where
+  -- the pins that are at c
+  abbrev pub atValue : Bool → List P → List P
+  atValue c [] = []
+  atValue c (p ∷ ps) = cond (Bool·beq (value p) c) (p ∷ atValue c ps) (atValue c ps)
+
+  -- c forces k, otherwise the output is not k; "MUX gives a when select is 0, b when it is 1"; a parity gate of equal
+  -- pins gives its parity. MUX has three pins: it is never asked with fewer
+  unfoldable pub gateValue : Kind → List P → Bool
+  gateValue (Simple c k) ps = cond (any (λ p. Bool·beq (value p) c) ps) k (not k)
+  gateValue (Parity equal) [] = equal
+  gateValue (Parity equal) (p ∷ ps) = cond (value p) (not (gateValue (Parity equal) ps)) (gateValue (Parity equal) ps)
+  gateValue Mux [] = false
+  gateValue Mux (select ∷ []) = false
+  gateValue Mux (select ∷ a ∷ []) = false
+  gateValue Mux (select ∷ a ∷ b ∷ ps) = cond (value select) (value b) (value a)
+
+module _ {P : Type 0} (ready : P → ℕ) where
+  -- when the last pin is ready
+  abbrev pub last : List P → ℕ
+  last [] = 0
+  last (p ∷ ps) = max (ready p) (last ps)
+
+  -- when the first of p and ps is ready
+  abbrev pub first : P → List P → ℕ
+  first p [] = ready p
+  first p (q ∷ qs) = min (ready p) (first q qs)
+
+  -- when the first pin is ready; otherwise, where there is none, at `otherwise`
+  abbrev pub firstOr : List P → ℕ → ℕ
+  firstOr [] otherwise = otherwise
+  firstOr (p ∷ ps) otherwise = first p ps
+
+-- "A simple gate with a pin at c settles when the first such pin is ready; otherwise when its last pin is ready.
+-- XOR, XNOR and MUX settle when the last pin is ready."
+unfoldable pub settles : {P : Type 0} → (P → Bool) → (P → ℕ) → Kind → List P → ℕ
+settles value ready (Simple c k) ps = firstOr ready (atValue value c ps) (last ready ps)
+settles value ready (Parity equal) ps = last ready ps
+settles value ready Mux ps = last ready ps
+
+-- ---- all nodes of a netlist
+
+-- an entry for each gate, worked out from the entries before it and put behind them
+unfoldable pub grow : {A : Type 0} → A → (Cell → (ℕ → A) → A) → List A → List Cell → List A
+grow none step done [] = done
+grow none step done (g ∷ gs) = grow none step (done ++ (step g (λ node. getD done node none) ∷ [])) gs
+
+-- "A pin is ready at its node's settling time plus its delay."
+abbrev pub readyAt : (ℕ → ℕ) → Pin → ℕ
+readyAt time p = time (p .driver) + p .delay
+
+-- the final values of all nodes under an input vector
+unfoldable pub valuesOf : Netlist → List Bool → List Bool
+valuesOf net vector = grow false (λ g value. gateValue (λ p. value (p .driver)) (g .kind) (g .pins)) vector (net .gates)
+
+-- a node's final value
+abbrev pub valueOf : Netlist → List Bool → ℕ → Bool
+valueOf net vector node = getD (valuesOf net vector) node false
+
+-- the settling times of all nodes; the inputs settle at their arrivals
+unfoldable pub timesOf : Netlist → List ℕ → List Bool → List ℕ
+timesOf net arrivals vector =
+    grow 0 (λ g time. settles (λ p. valueOf net vector (p .driver)) (readyAt time) (g .kind) (g .pins)) arrivals
+    (net .gates)
+
+-- a node's settling time
+abbrev pub timeOf : Netlist → List ℕ → List Bool → ℕ → ℕ
+timeOf net arrivals vector node = getD (timesOf net arrivals vector) node 0
+
+-- "An input settles at 0."
+abbrev pub atZero : Netlist → List ℕ
+atZero net = replicate (net .inputs) 0
+
+-- "The circuit settles at the largest time of its outputs."
+unfoldable pub circuitTime : Netlist → List ℕ → List Bool → ℕ
+circuitTime net arrivals vector = last (timeOf net arrivals vector) (net .outputs)
+
+-- "top(node) is the longest sum of delays to it, 0 for an input."
+unfoldable pub topsOf : Netlist → List ℕ → List ℕ
+topsOf net arrivals = grow 0 (λ g top. last (readyAt top) (g .pins)) arrivals (net .gates)
+
+-- a node's top
+abbrev pub topOf : Netlist → List ℕ → ℕ → ℕ
+topOf net arrivals node = getD (topsOf net arrivals) node 0

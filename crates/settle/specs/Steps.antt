@@ -1,0 +1,113 @@
+-- What the functions under `evaluate` lean on and what each of them makes, step by step. Serves their contracts alone:
+-- Promise says what `evaluate` does, and does not cite it.
+use mathlib.Core.Path.{_≡_}
+use mathlib.Core.Bool.{Bool, true, false, not, _||_, Bool·beq, cond}
+use mathlib.Core.List.{List, [], _∷_, _++_, map}
+use Prim.Native.Nat.{ℕ, _+_, _≤_, _<_, max, min}
+use lib.Dec.{eqb, ltb}
+use lib.ListN.{length, getD, take, drop, replicate}
+use Rattle.basics.specs.Lists.{upFrom}
+use Rattle.refusal.specs.declared.Refusal.the-variants.{Vector, Room}
+use Rattle.netlist.specs.declared.Kind.{Kind}
+use Rattle.netlist.specs.declared.Shape.{Shape}
+use Rattle.netlist.specs.Netlist.{Pin}
+use Rattle.netlist.specs.Kinds.{bit}
+use Rattle.netlist.specs.File.{driverAt, pinAt, netlistAt}
+use Rattle.netlist.specs.Holds.{Tables}
+use Rattle.settle.specs.declared.Signal.{Signal}
+use Rattle.settle.specs.declared.Scan.{Scan}
+use Rattle.settle.specs.declared.Given.{Given}
+use Rattle.settle.specs.declared.Given.the-variants.{Fit, Unfit}
+use Rattle.settle.specs.Settling.{gateValue, settles, readyAt, valuesOf, timesOf, atZero}
+use Rattle.settle.specs.Promise.{bits, byteWrong}
+
+-- ---- a gate's pins, over the lent slices
+
+-- the pins from number `first` on, so many
+unfoldable pub pinsAt : List ℕ → Shape → ℕ → ℕ → List Pin
+pinsAt file shape first count = map (pinAt file shape) (upFrom first count)
+
+-- a pin's value, by a slice of values
+abbrev pub pinValue : List ℕ → Pin → Bool
+pinValue values p = eqb (getD values (p .driver) 0) 1
+
+-- when a pin is ready, by a slice of times
+abbrev pub pinReady : List ℕ → Pin → ℕ
+pinReady times = readyAt (λ node. getD times node 0)
+
+-- the signal at a pin
+unfoldable pub pinSignal : List ℕ → List ℕ → Pin → Signal
+pinSignal values times p = record { value = pinValue values p; at = pinReady times p }
+
+-- the signal that a gate gives
+unfoldable pub gateSignal : List ℕ → List ℕ → Kind → List Pin → Signal
+gateSignal values times kind ps =
+    record { value = gateValue (pinValue values) kind ps; at = settles (pinValue values) (pinReady times) kind ps }
+
+-- one pin more, at c or not: whether some pin is at c, when the first of those is ready, and when the last of all is
+unfoldable pub withPin : Scan → Bool → ℕ → Scan
+withPin scan controls ready =
+    record {
+      some = controls || scan .some;
+      first = cond controls (cond (scan .some) (min ready (scan .first)) ready) (scan .first);
+      last = max ready (scan .last);
+    }
+
+-- all pins of a simple gate
+unfoldable pub scanOf : List ℕ → List ℕ → Bool → List Pin → Scan
+scanOf values times c [] = record { some = false; first = 0; last = 0 }
+scanOf values times c (p ∷ ps) =
+    withPin (scanOf values times c ps) (Bool·beq (pinValue values p) c) (pinReady times p)
+
+-- the pins stand in the file, their drivers in the slices, and no time is so late that a delay more would not fit
+pub record Wired (file : List ℕ) (shape : Shape) (first count : ℕ) (values times : List ℕ) : Type 0 where
+  pub tables : Tables file shape
+  pub within : first + count ≤ shape .pins
+  pub drivers : (pin : ℕ) → first ≤ pin → pin < first + count → driverAt file shape pin < length values
+  pub paired : length times ≡ length values
+  pub early : (node : ℕ) → getD times node 0 ≤ 447552
+
+-- ---- the nodes
+
+-- the inputs' nodes are done: the vector, and zeros for their times; the rest is as it was
+pub record Entered (vector values₀ times₀ values times : List ℕ) : Type 0 where
+  pub values-are : values ≡ vector ++ drop (length vector) values₀
+  pub times-are : times ≡ replicate (length vector) 0 ++ drop (length vector) times₀
+
+-- the inputs' values and times stand in the slices, which have room for all nodes
+pub record Begun (shape : Shape) (values times : List ℕ) : Type 0 where
+  pub inputs : take (shape .inputs) values ≡ map bit (bits (take (shape .inputs) values))
+  pub zeros : take (shape .inputs) times ≡ replicate (shape .inputs) 0
+  pub values-room : shape .inputs + shape .gates ≤ length values
+  pub times-room : shape .inputs + shape .gates ≤ length times
+
+-- all nodes are done; the rest is as it was
+pub record Done (file : List ℕ) (shape : Shape) (vector : List Bool) (values₀ times₀ values times : List ℕ) :
+    Type 0 where
+  pub values-are :
+      values ≡ map bit (valuesOf (netlistAt file shape) vector) ++ drop (shape .inputs + shape .gates) values₀
+  pub times-are :
+      times
+      ≡ timesOf (netlistAt file shape) (atZero (netlistAt file shape)) vector
+      ++ drop (shape .inputs + shape .gates) times₀
+
+-- the vector has a bit for each input, and the slices have room for all nodes
+pub record Usable (shape : Shape) (vector : List ℕ) (valuesRoom timesRoom : ℕ) : Type 0 where
+  pub long : length vector ≡ shape .inputs
+  pub small : vector ≡ map bit (bits vector)
+  pub values-room : shape .inputs + shape .gates ≤ valuesRoom
+  pub times-room : shape .inputs + shape .gates ≤ timesRoom
+
+-- ---- 8 VECTOR, then 9 ROOM for values, then for times
+
+-- a row of the table: unfit when, or on to the next row
+abbrev pub choose : Bool → Given → Given → Given
+choose true found next = found
+choose false found next = next
+
+unfoldable pub givenOf : ℕ → ℕ → List ℕ → ℕ → ℕ → Given
+givenOf inputs nodes vector valuesRoom timesRoom =
+    choose (not (eqb (length vector) inputs)) (Unfit (Vector inputs))
+    (choose (ltb (byteWrong vector) (length vector)) (Unfit (Vector (byteWrong vector)))
+    (choose (ltb valuesRoom nodes) (Unfit (Room nodes))
+    (choose (ltb timesRoom nodes) (Unfit (Room nodes)) Fit)))

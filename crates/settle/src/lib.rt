@@ -1,0 +1,401 @@
+// Floating mode by controlling values: every node's final value and settling time. Assumes nothing.
+use netlist::Gate;
+use netlist::Kind;
+use netlist::Opened;
+use netlist::Shape;
+use refusal::Refusal;
+ghost use mathlib.Core.Path.{_≡_};
+ghost use Prim.Native.Nat.{_+_, _-_, _≤_, _<_, max, min};
+ghost use lib.Dec.{T};
+ghost use lib.ListN.{length, getD, take, replicate};
+ghost use Rattle.netlist.specs.Kinds.{bit};
+ghost use Rattle.netlist.specs.Netlist.{takes};
+ghost use Rattle.netlist.specs.File.{pinAt, netlistAt};
+ghost use Rattle.netlist.specs.Holds.{Holds};
+ghost use Rattle.netlist.specs.declared.Kind.the-variants.{Simple, Parity, Mux};
+ghost use Rattle.settle.specs.Settling.{last};
+ghost use Rattle.settle.specs.Promise.{bits, byteWrong, settled, evaluationOf, evaluation};
+ghost use Rattle.settle.specs.Steps.{pinsAt, pinSignal, gateSignal, withPin, givenOf};
+ghost use Rattle.settle.specs.Steps.{Wired, Entered, Begun, Done, Usable};
+
+// The circuit's settling time, or a refusal.
+pub enum Settled {
+    At(u32),
+    Refused(Refusal),
+}
+
+// A final value, and when it is there: when a pin is ready, or a node settles.
+struct Signal {
+    value: bool,
+    at: u32,
+}
+
+// What a simple gate's pins say: whether some pin is at c, when the first of those is ready, and when the last of all
+// pins is.
+struct Scan {
+    some: bool,
+    first: u32,
+    last: u32,
+}
+
+// What a call is given beside the file: fit, or refused.
+enum Given {
+    Fit,
+    Unfit(Refusal),
+}
+
+// The later of two times.
+fn later(a: u32, b: u32) -> u32
+    ensures { λ r. ⌜ r ≡ max a b ⌝ }
+{
+    if a < b { b } else { a }
+}
+
+// The earlier of two times.
+fn earlier(a: u32, b: u32) -> u32
+    ensures { λ r. ⌜ r ≡ min a b ⌝ }
+{
+    if a < b { a } else { b }
+}
+
+// The signal at a pin: its node's value, and its node's settling time plus its delay.
+fn pin_signal(file: &[u8], shape: Shape, pin: usize, values: &[u8], times: &[u32]) -> Signal
+    requires { ⌜ Wired (now file) shape pin 1 (now values) (now times) ⌝ }
+    ensures { λ r. ⌜ r ≡ pinSignal (now (values .entry)) (now (times .entry)) (pinAt (now (file .entry)) shape pin) ⌝ }
+{
+    let driver = netlist::driver_at(file, shape, pin);
+    let delay = netlist::delay_at(file, shape, pin) as u32;
+    Signal {
+        value: values[driver] == 1,
+        at: times[driver] + delay,
+    }
+}
+
+// One pin more in a scan.
+fn with_pin(scan: Scan, controls: bool, ready: u32) -> Scan
+    ensures { λ r. ⌜ r ≡ withPin scan controls ready ⌝ }
+{
+    let some = scan.some;
+    let first = scan.first;
+    let last = later(ready, scan.last);
+    if !controls {
+        return Scan {
+            some: some,
+            first: first,
+            last: last,
+        };
+    }
+    if some {
+        return Scan {
+            some: true,
+            first: earlier(ready, first),
+            last: last,
+        };
+    }
+    Scan {
+        some: true,
+        first: ready,
+        last: last,
+    }
+}
+
+// A simple gate of the pins from `first` on: with a pin at c it gives k when the first such pin is ready, otherwise the
+// opposite when the last pin is. The pins are taken from the last to the first, as the definition's list is built.
+fn simple_signal(
+    file: &[u8],
+    shape: Shape,
+    first: usize,
+    count: usize,
+    c: bool,
+    k: bool,
+    values: &[u8],
+    times: &[u32],
+) -> Signal
+    requires { ⌜ Wired (now file) shape first count (now values) (now times) ⌝ }
+    ensures { λ r. ⌜
+        r ≡ gateSignal (now (values .entry)) (now (times .entry)) (Simple c k)
+        (pinsAt (now (file .entry)) shape first count) ⌝ }
+{
+    let mut scan = Scan {
+        some: false,
+        first: 0,
+        last: 0,
+    };
+    let mut left = count;
+    while 0 < left {
+        left -= 1;
+        let pin = pin_signal(file, shape, first + left, values, times);
+        scan = with_pin(scan, pin.value == c, pin.at);
+    }
+    if scan.some {
+        return Signal {
+            value: k,
+            at: scan.first,
+        };
+    }
+    Signal {
+        value: !k,
+        at: scan.last,
+    }
+}
+
+// A parity gate of two pins from `first` on: their parity, when the last of them is ready.
+fn parity_signal(
+    file: &[u8],
+    shape: Shape,
+    first: usize,
+    equal: bool,
+    values: &[u8],
+    times: &[u32],
+) -> Signal
+    requires { ⌜ Wired (now file) shape first 2 (now values) (now times) ⌝ }
+    ensures { λ r. ⌜
+        r ≡ gateSignal (now (values .entry)) (now (times .entry)) (Parity equal)
+        (pinsAt (now (file .entry)) shape first 2) ⌝ }
+{
+    let a = pin_signal(file, shape, first, values, times);
+    let b = pin_signal(file, shape, first + 1, values, times);
+    Signal {
+        value: equal == (a.value == b.value),
+        at: later(a.at, b.at),
+    }
+}
+
+// A multiplexer of three pins from `first` on: a when select is 0, b when it is 1, when the last of the three is ready.
+fn mux_signal(file: &[u8], shape: Shape, first: usize, values: &[u8], times: &[u32]) -> Signal
+    requires { ⌜ Wired (now file) shape first 3 (now values) (now times) ⌝ }
+    ensures { λ r. ⌜
+        r ≡ gateSignal (now (values .entry)) (now (times .entry)) Mux
+        (pinsAt (now (file .entry)) shape first 3) ⌝ }
+{
+    let select = pin_signal(file, shape, first, values, times);
+    let a = pin_signal(file, shape, first + 1, values, times);
+    let b = pin_signal(file, shape, first + 2, values, times);
+    let last = later(select.at, later(a.at, b.at));
+    if select.value {
+        return Signal {
+            value: b.value,
+            at: last,
+        };
+    }
+    Signal {
+        value: a.value,
+        at: last,
+    }
+}
+
+// A gate of any kind, over the nodes before it.
+fn gate_signal(file: &[u8], shape: Shape, gate: Gate, values: &[u8], times: &[u32]) -> Signal
+    requires { ⌜
+        Wired (now file) shape (gate .first) (gate .count) (now values) (now times)
+        × T (takes (gate .kind) (gate .count)) ⌝ }
+    ensures { λ r. ⌜
+        r ≡ gateSignal (now (values .entry)) (now (times .entry)) (gate .kind)
+        (pinsAt (now (file .entry)) shape (gate .first) (gate .count)) ⌝ }
+{
+    let kind = gate.kind;
+    let first = gate.first;
+    let count = gate.count;
+    match kind {
+        Kind::Simple { c, k } => simple_signal(file, shape, first, count, c, k, values, times),
+        Kind::Parity(equal) => parity_signal(file, shape, first, equal, values, times),
+        Kind::Mux => mux_signal(file, shape, first, values, times),
+    }
+}
+
+// A value as it stands in a slice.
+fn stored(value: bool) -> u8
+    ensures { λ r. ⌜ r ≡ bit value ⌝ }
+{
+    if value { 1 } else { 0 }
+}
+
+// The inputs' nodes: the vector's values, each settled at 0.
+fn settle_inputs(vector: &[u8], values: &mut [u8], times: &mut [u32])
+    requires { ⌜ (length (now vector) ≤ length (now values)) × (length (now vector) ≤ length (now times)) ⌝ }
+    ensures { λ _. ⌜
+        Entered (now (vector .entry)) (now (values .entry)) (now (times .entry))
+        (now (values .exit)) (now (times .exit)) ⌝ }
+{
+    let mut node = 0;
+    while node < vector.len() {
+        values[node] = vector[node];
+        times[node] = 0;
+        node += 1;
+    }
+}
+
+// The gates' nodes, behind the inputs': each from the nodes before it.
+fn settle_gates(file: &[u8], shape: Shape, values: &mut [u8], times: &mut [u32])
+    requires { ⌜ Holds (now file) shape × Begun shape (now values) (now times) ⌝ }
+    ensures { λ _. ⌜
+        Done (now (file .entry)) shape (bits (take (shape .inputs) (now (values .entry))))
+        (now (values .entry)) (now (times .entry)) (now (values .exit)) (now (times .exit)) ⌝ }
+{
+    let inputs = shape.inputs;
+    let gates = shape.gates;
+    let mut number = 0;
+    while number < gates {
+        let node = inputs + number;
+        let gate = netlist::gate_at(file, shape, number);
+        let signal = gate_signal(file, shape, gate, &values[..node], &times[..node]);
+        values[node] = stored(signal.value);
+        times[node] = signal.at;
+        number += 1;
+    }
+}
+
+// All nodes.
+fn settle_nodes(file: &[u8], shape: Shape, vector: &[u8], values: &mut [u8], times: &mut [u32])
+    requires { ⌜ Holds (now file) shape × Usable shape (now vector) (length (now values)) (length (now times)) ⌝ }
+    ensures { λ _. ⌜
+        Done (now (file .entry)) shape (bits (now (vector .entry)))
+        (now (values .entry)) (now (times .entry)) (now (values .exit)) (now (times .exit)) ⌝ }
+{
+    settle_inputs(vector, values, times);
+    settle_gates(file, shape, values, times);
+}
+
+// The largest time of the outputs.
+fn latest_output(file: &[u8], shape: Shape, times: &[u32]) -> u32
+    requires { ⌜ Holds (now file) shape × (shape .inputs + shape .gates ≤ length (now times)) ⌝ }
+    ensures { λ r. ⌜
+        r ≡ last (λ node. getD (now (times .entry)) node 0) (netlistAt (now (file .entry)) shape .outputs) ⌝ }
+{
+    let outputs = shape.outputs;
+    let mut latest = 0;
+    let mut position = 0;
+    while position < outputs {
+        let node = netlist::output_at(file, shape, position);
+        latest = later(latest, times[node]);
+        position += 1;
+    }
+    latest
+}
+
+// All nodes and the circuit's time; zeros behind the nodes.
+fn settle_all(
+    file: &[u8],
+    shape: Shape,
+    vector: &[u8],
+    values: &mut [u8],
+    times: &mut [u32],
+) -> Settled
+    requires { ⌜ Holds (now file) shape × Usable shape (now vector) (length (now values)) (length (now times)) ⌝ }
+    ensures { λ r. ⌜
+        r ≡ settled (netlistAt (now (file .entry)) shape) (now (vector .entry))
+        (length (now (values .entry))) (length (now (times .entry))) .answer ⌝ }
+    ensures { λ _. ⌜
+        now (values .exit) ≡ settled (netlistAt (now (file .entry)) shape) (now (vector .entry))
+        (length (now (values .entry))) (length (now (times .entry))) .values ⌝ }
+    ensures { λ _. ⌜
+        now (times .exit) ≡ settled (netlistAt (now (file .entry)) shape) (now (vector .entry))
+        (length (now (values .entry))) (length (now (times .entry))) .times ⌝ }
+{
+    let nodes = shape.inputs + shape.gates;
+    settle_nodes(file, shape, vector, values, times);
+    let time = latest_output(file, shape, times);
+    lent::zero_rest_u8(values, nodes);
+    lent::zero_rest_u32(times, nodes);
+    Settled::At(time)
+}
+
+// How many bytes stand before the first that is over 1; all of them where none is.
+fn first_over_one(vector: &[u8]) -> usize
+    ensures { λ r. ⌜ r ≡ byteWrong (now (vector .entry)) ⌝ }
+{
+    let mut i = 0;
+    while i < vector.len() {
+        if 1 < vector[i] {
+            return i;
+        }
+        i += 1;
+    }
+    i
+}
+
+// 8 for the vector, then 9 for values, then for times.
+fn check_given(
+    vector: &[u8],
+    inputs: usize,
+    nodes: usize,
+    values_room: usize,
+    times_room: usize,
+) -> Given
+    ensures { λ r. ⌜ r ≡ givenOf inputs nodes (now (vector .entry)) «values_room» «times_room» ⌝ }
+{
+    if vector.len() != inputs {
+        return Given::Unfit(Refusal::Vector(inputs));
+    }
+    let wrong = first_over_one(vector);
+    if wrong < vector.len() {
+        return Given::Unfit(Refusal::Vector(wrong));
+    }
+    if values_room < nodes {
+        return Given::Unfit(Refusal::Room(nodes));
+    }
+    if times_room < nodes {
+        return Given::Unfit(Refusal::Room(nodes));
+    }
+    Given::Fit
+}
+
+// A refusal zeroes both slices.
+fn refuse(refusal: Refusal, values: &mut [u8], times: &mut [u32]) -> Settled
+    ensures { λ r. ⌜ r ≡ Settled.Refused refusal ⌝ }
+    ensures { λ _. ⌜ now (values .exit) ≡ replicate (length (now (values .entry))) 0 ⌝ }
+    ensures { λ _. ⌜ now (times .exit) ≡ replicate (length (now (times .entry))) 0 ⌝ }
+{
+    lent::zero_u8(values);
+    lent::zero_u32(times);
+    Settled::Refused(refusal)
+}
+
+// The evaluation of a file that is accepted with this shape: 8, then 9 for values, then for times, or all values and
+// times. For callers that have opened the file.
+pub fn evaluate_accepted(
+    file: &[u8],
+    shape: Shape,
+    vector: &[u8],
+    values: &mut [u8],
+    times: &mut [u32],
+) -> Settled
+    requires { ⌜ Holds (now file) shape ⌝ }
+    ensures { λ r. ⌜
+        r ≡ evaluationOf (netlistAt (now (file .entry)) shape) (now (vector .entry))
+        (length (now (values .entry))) (length (now (times .entry))) .answer ⌝ }
+    ensures { λ _. ⌜
+        now (values .exit) ≡ evaluationOf (netlistAt (now (file .entry)) shape) (now (vector .entry))
+        (length (now (values .entry))) (length (now (times .entry))) .values ⌝ }
+    ensures { λ _. ⌜
+        now (times .exit) ≡ evaluationOf (netlistAt (now (file .entry)) shape) (now (vector .entry))
+        (length (now (values .entry))) (length (now (times .entry))) .times ⌝ }
+{
+    let inputs = shape.inputs;
+    let nodes = inputs + shape.gates;
+    let given = check_given(vector, inputs, nodes, values.len(), times.len());
+    match given {
+        Given::Fit => settle_all(file, shape, vector, values, times),
+        Given::Unfit(refusal) => refuse(refusal, values, times),
+    }
+}
+
+// All values and times of a circuit under a vector, and its settling time; or the first refusal of 1..8, then 9 for
+// values, then for times, and zeros.
+pub fn evaluate(file: &[u8], vector: &[u8], values: &mut [u8], times: &mut [u32]) -> Settled
+    ensures { λ r. ⌜
+        r ≡ evaluation (now (file .entry)) (now (vector .entry))
+        (length (now (values .entry))) (length (now (times .entry))) .answer ⌝ }
+    ensures { λ _. ⌜
+        now (values .exit) ≡ evaluation (now (file .entry)) (now (vector .entry))
+        (length (now (values .entry))) (length (now (times .entry))) .values ⌝ }
+    ensures { λ _. ⌜
+        now (times .exit) ≡ evaluation (now (file .entry)) (now (vector .entry))
+        (length (now (values .entry))) (length (now (times .entry))) .times ⌝ }
+{
+    let opened = netlist::open(file);
+    match opened {
+        Opened::Accepted(shape) => evaluate_accepted(file, shape, vector, values, times),
+        Opened::Refused(refusal) => refuse(refusal, values, times),
+    }
+}
