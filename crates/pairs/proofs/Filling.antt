@@ -1,0 +1,257 @@
+-- The loop that fills the table: its end holds the pairs of the least set from the key (f, b) on, so that at the end it
+-- holds all, and where one more is asked for and no room is left there are too many. Laws: filling-starts,
+-- filling-bound, filling-top, filling-sorted, filling-down, filling-more, filling-full, filling-ends. Assumes nothing.
+use mathlib.Core.Path.{_≡_, refl, sym, ap, ap₂, subst, _∙_}
+use mathlib.Core.Logic.{_⊎_, inl, inr}
+use mathlib.Core.List.{
+  List,
+  [],
+  _∷_,
+  List·Memᴰ,
+  List·Memᴰ·head,
+  List·Memᴰ·tail,
+  List·Memᴰ·not-nil,
+  List·Memᴰ·cases-cons,
+}
+use Prim.Native.Nat.{ℕ, _+_, _*_, _-_, _/_, _<_, _≤_}
+use native.Mathlib.Omega.{arith}
+use native.Mathlib.Decide.{decLe}
+use lib.ListN.{length, getD, take, drop, drop-of-length-le}
+use Rattle.netlist.specs.declared.Shape.{Shape}
+use Rattle.netlist.specs.Netlist.{Netlist}
+use Rattle.netlist.specs.File.{netlistAt}
+use Rattle.netlist.specs.Holds.{Holds}
+use Rattle.netlist.proofs.Entries.{net-inputs}
+use Rattle.netlist.proofs.Valid.{valid-gates, valid-outputs}
+use Rattle.settle.specs.Settling.{topOf, atZero}
+use Rattle.settle.proofs.Nodes.{tops-small}
+use Rattle.pairs.specs.Pairs.{flatPairs, pairsFor, pairList}
+use Rattle.pairs.specs.Rising.{Before, Rising}
+use Rattle.pairs.specs.Table.{pairsIn, keyOf, Sorted, Most, Asks}
+use Rattle.pairs.specs.Promise.{Tops, pairsAt}
+use Rattle.pairs.proofs.Least.{is-pair}
+use Rattle.pairs.proofs.Rising.{before-irreflexive, before-transitive, above-of, pairs-rising}
+use Rattle.pairs.proofs.Unique.{rising-short, pairs-unique, asked-pairs}
+use Rattle.pairs.proofs.Flat.{part, pairs-flat}
+use Rattle.pairs.proofs.Search.{of-key, rising-sorted}
+use Rattle.pairs.proofs.Topping.{top-read}
+use Rattle.pairs.proofs.Step.{AskedAt, facts-of, stepped, asked-of}
+
+pub record Filling (file : List ℕ) (shape : Shape) (target : ℕ) (table₀ table : List ℕ) (at f b : ℕ) : Type 0 where
+  pub done : List (ℕ × ℕ)
+  pub len : length table ≡ length table₀
+  pub even : length table₀ / 2 * 2 ≡ length table₀
+  pub is : drop (at * 2) table ≡ flatPairs done
+  pub room : at + length done ≡ length table₀ / 2
+  pub node : shape .inputs ≤ f
+  pub nodes : f ≤ shape .inputs + shape .gates
+  pub bound : b ≤ topOf (netlistAt file shape) (atZero (netlistAt file shape)) f + 1
+  pub rising : Rising Before done
+  pub sound : (x : ℕ × ℕ) → List·Memᴰ x done → AskedAt file shape target (x .0) (x .1)
+  pub low : (x : ℕ × ℕ) → List·Memᴰ x done → keyOf (f, b) ≤ keyOf x
+  pub full : (n s : ℕ) → AskedAt file shape target n s → keyOf (f, b) ≤ keyOf (n, s) → List·Memᴰ (n, s) done
+
+module _ {file : List ℕ} {shape : Shape} (holds : Holds file shape) (target : ℕ) where
+  abbrev net : Netlist
+  net = netlistAt file shape
+
+  abbrev top : ℕ → ℕ
+  top = topOf net (atZero net)
+
+  abbrev A : ℕ → ℕ → Type 0
+  A = AskedAt file shape target
+
+  facts : (n s : ℕ) → A n s →
+      (shape .inputs ≤ n) × (n < shape .inputs + shape .gates) × (0 < s) × (s ≤ top n) × (s ≤ 447552)
+  facts = facts-of holds target
+
+  small : (n : ℕ) → top n ≤ 447552
+  small = tops-small net (holds .valid)
+
+  pub filling-starts : (table : List ℕ) → length table / 2 * 2 ≡ length table →
+      Filling file shape target table table (length table / 2) (shape .inputs + shape .gates) 0
+  unfolding flatPairs
+  filling-starts table e =
+      record {
+        done = [];
+        len = refl;
+        even = e;
+        is = drop-of-length-le table {i = length table / 2 * 2} (omega arith);
+        room = omega arith;
+        node = omega arith;
+        nodes = omega arith;
+        bound = omega arith;
+        rising = tt;
+        sound = λ x m. absurd (List·Memᴰ·not-nil m);
+        low = λ x m. absurd (List·Memᴰ·not-nil m);
+        full = λ n s a h. absurd (omega (arith, facts n s a .1, facts n s a .4));
+      }
+
+  module _ {table₀ table : List ℕ} {at f b : ℕ} (w : Filling file shape target table₀ table at f b) where
+    -- the pairs in the table's end are those found
+    seen : pairsIn (take (length table - at * 2) (drop (at * 2) table)) ≡ w .done
+    seen = ap pairsIn (part table (at * 2) ∙ w .is) ∙ pairs-flat (w .done)
+
+    -- b is a top and one more at most
+    pub filling-bound : b ≤ 447553
+    filling-bound = omega (arith, w .bound, small f)
+
+    -- the top of the node below, as it is read, is small
+    pub filling-top : {tops : List ℕ} → shape .inputs < f → Tops file shape tops → (x : ℕ) → x ≡ getD tops (f - 1) 0 →
+        x ≤ 447552
+    filling-top h tops x q = top-read holds (f - 1) x tops (omega (arith, w .nodes)) q .1
+
+    pub filling-sorted : Sorted (pairsIn (take (length table - at * 2) (drop (at * 2) table)))
+    filling-sorted =
+        rw seen
+        (rising-sorted (w .done) (w .rising) (λ x m. omega (arith, facts (x .0) (x .1) (w .sound x m) .4)))
+
+    -- t is what `asks` gives of the table's end
+    module _ (t : ℕ)
+        (most :
+        Most (Asks (pairsIn (take (length table - at * 2) (drop (at * 2) table))) file shape target (shape .gates) f) b
+        t)
+      where
+        largest : Most (Asks (w .done) file shape target (shape .gates) f) b t
+        largest = rw seen at most
+
+        -- a pair of node f that is asked for and is not found yet is at most t
+        at-most : (s : ℕ) → A f s → s < b → s ≤ t
+        at-most s a h =
+            largest .most s
+            (stepped holds target (w .done) f s a λ n r l q.
+            w .full n r q (omega (arith, facts n r q .4, small f, w .bound)))
+            h
+
+        -- what is asked for from (f, t) on
+        from-here : (n s : ℕ) → A n s → keyOf (f, t) ≤ keyOf (n, s) →
+            List·Memᴰ (n, s) (w .done) ⊎ ((n ≡ f) × (s ≡ t) × (s < b))
+        from-here n s a h = go (decLe (keyOf (f, b)) (keyOf (n, s)))
+          where
+            go : Dec (keyOf (f, b) ≤ keyOf (n, s)) → List·Memᴰ (n, s) (w .done) ⊎ ((n ≡ f) × (s ≡ t) × (s < b))
+            go (yes l) = inl (w .full n s a l)
+            go (no l) =
+                let e : n ≡ f = omega (arith, facts n s a .4, small f, w .bound) in
+                let k : s ≤ t = at-most s (subst (λ (x : ℕ). A x s) e a) (omega arith) in
+                inr (e, omega arith, omega arith)
+
+        -- nothing more of node f: on to the node below, whose top is x
+        pub filling-down : {tops : List ℕ} → t ≡ 0 → shape .inputs < f → Tops file shape tops → (x b′ : ℕ) →
+            x ≡ getD tops (f - 1) 0 → b′ ≡ x + 1 → Filling file shape target table₀ table at (f - 1) b′
+        filling-down z h tops x b′ q i =
+            let e = top-read holds (f - 1) x tops (omega (arith, w .nodes)) q .0 in
+            record {
+              done = w .done;
+              len = w .len;
+              even = w .even;
+              is = w .is;
+              room = w .room;
+              node = omega arith;
+              nodes = omega (arith, w .nodes);
+              bound = omega arith;
+              rising = w .rising;
+              sound = w .sound;
+              low = λ x m. omega (arith, w .low x m, small (f - 1));
+              full = λ n s a k. more n s a (omega arith) (decLe (keyOf (f, t)) (keyOf (n, s)));
+            }
+          where
+            more : (n s : ℕ) → A n s → keyOf (f - 1, top (f - 1) + 1) ≤ keyOf (n, s) →
+                Dec (keyOf (f, t) ≤ keyOf (n, s)) → List·Memᴰ (n, s) (w .done)
+            more n s a k (yes l) = pick (from-here n s a l)
+              where
+                pick : List·Memᴰ (n, s) (w .done) ⊎ ((n ≡ f) × (s ≡ t) × (s < b)) → List·Memᴰ (n, s) (w .done)
+                pick (inl m) = m
+                pick (inr q) = absurd (omega (arith, q .1, facts n s a .2))
+            more n s a k (no l) =
+                let q : n ≡ f - 1 = omega (arith, facts n s a .4) in
+                let r : top n ≡ top (f - 1) = ap top q in
+                absurd (omega (arith, facts n s a .3))
+
+        module _ (pos : 0 < t) where
+          next : A f t × (t < b)
+          next =
+              let q = largest .found pos in (
+                asked-of holds target (w .done) f t (q .0) (w .sound)
+                    (is-pair (net .inputs) top (net .outputs) target f t
+                    (omega (arith, w .node, net-inputs file shape)) pos (omega (arith, q .1, w .bound))),
+                q .1,
+              )
+
+          longer : Rising Before ((f, t) ∷ w .done)
+          longer = (
+            above-of Before (f, t) (w .done)
+                (λ x m.
+                of-key (f, t) x (omega (arith, facts (x .0) (x .1) (w .sound x m) .4))
+                (omega (arith, w .low x m, next .1))),
+            w .rising,
+          )
+
+          sounder : (x : ℕ × ℕ) → List·Memᴰ x ((f, t) ∷ w .done) → A (x .0) (x .1)
+          sounder x m = pick (List·Memᴰ·cases-cons m)
+            where
+              pick : (x ≡ (f, t)) ⊎ List·Memᴰ x (w .done) → A (x .0) (x .1)
+              pick (inl e) = subst (λ (y : ℕ × ℕ). A (y .0) (y .1)) (sym e) (next .0)
+              pick (inr i) = w .sound x i
+
+          -- one more pair
+          pub filling-more : (table′ : List ℕ) → 0 < at → length table′ ≡ length table →
+              drop ((at - 1) * 2) table′ ≡ f ∷ t ∷ drop ((at - 1) * 2 + 2) table →
+              Filling file shape target table₀ table′ (at - 1) f t
+          unfolding flatPairs
+          filling-more table′ h l e =
+              let q : (at - 1) * 2 + 2 ≡ at * 2 = omega arith in
+              record {
+                done = (f, t) ∷ w .done;
+                len = l ∙ w .len;
+                even = w .even;
+                is = e ∙ ap (λ (x : List ℕ). f ∷ t ∷ x) (ap (λ (n : ℕ). drop n table) q ∙ w .is);
+                room = omega (arith, w .room);
+                node = w .node;
+                nodes = w .nodes;
+                bound = omega (arith, w .bound, next .1);
+                rising = longer;
+                sound = sounder;
+                low = λ x m. lower x (List·Memᴰ·cases-cons m);
+                full = λ n s a k. pick n s (from-here n s a k);
+              }
+            where
+              lower : (x : ℕ × ℕ) → (x ≡ (f, t)) ⊎ List·Memᴰ x (w .done) → keyOf (f, t) ≤ keyOf x
+              lower x (inl i) = rw i (omega arith)
+              lower x (inr i) = omega (arith, w .low x i, next .1)
+
+              pick : (n s : ℕ) → List·Memᴰ (n, s) (w .done) ⊎ ((n ≡ f) × (s ≡ t) × (s < b)) →
+                  List·Memᴰ (n, s) ((f, t) ∷ w .done)
+              pick n s (inl m) = List·Memᴰ·tail m
+              pick n s (inr q) = List·Memᴰ·head (ap₂ (λ (x y : ℕ). (x, y)) (q .0) (q .1))
+
+          -- one more pair than there is room for
+          pub filling-full : at ≡ 0 → length table₀ / 2 < length (pairsAt file shape target)
+          unfolding pairsFor
+          filling-full e =
+              let k =
+              rising-short Before before-irreflexive before-transitive ((f, t) ∷ w .done)
+              (pairList (net .inputs) top (net .outputs) target (net .gates)) longer
+              (pairs-rising (net .inputs) top (net .outputs) target (net .gates))
+              (λ x m.
+              asked-pairs (net .inputs) top (net .outputs) target (net .gates) (valid-gates net (holds .valid))
+              (valid-outputs net (holds .valid)) (x .0) (x .1) (sounder x m))
+              in
+              omega (arith, w .room)
+
+        -- all are found
+        pub filling-ends : t ≡ 0 → f ≤ shape .inputs →
+            (at + length (pairsAt file shape target) ≡ length table₀ / 2)
+            × (drop (at * 2) table ≡ flatPairs (pairsAt file shape target))
+        unfolding pairsFor
+        filling-ends z h =
+            let e : w .done ≡ pairList (net .inputs) top (net .outputs) target (net .gates) =
+            pairs-unique (net .inputs) top (net .outputs) target (net .gates) (valid-gates net (holds .valid))
+            (valid-outputs net (holds .valid)) (w .done) (w .rising)
+            (λ n s. (λ m. w .sound (n, s) m, λ a. pick n s a (from-here n s a (omega (arith, facts n s a .0)))))
+            in
+            (ap (λ (x : List (ℕ × ℕ)). at + length x) (sym e) ∙ w .room, w .is ∙ ap flatPairs e)
+          where
+            pick : (n s : ℕ) → A n s → List·Memᴰ (n, s) (w .done) ⊎ ((n ≡ f) × (s ≡ t) × (s < b)) →
+                List·Memᴰ (n, s) (w .done)
+            pick n s a (inl m) = m
+            pick n s a (inr q) = absurd (omega (arith, q .1, facts n s a .2))

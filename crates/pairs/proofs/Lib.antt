@@ -1,0 +1,15 @@
+-- The laws of the pairs, one file a step: what the list of the pairs is (Numbered to Closed), and then what the
+-- functions need (Flat on).
+pub mod Numbered
+pub mod Least
+pub mod Rising
+pub mod Unique
+pub mod Closed
+pub mod Flat
+pub mod Search
+pub mod Largest
+pub mod Moving
+pub mod Topping
+pub mod Step
+pub mod Filling
+pub mod Whole

@@ -1,0 +1,203 @@
+-- The tops of all nodes, one gate after the other: the nodes before a gate have their tops, and the gate's is when its
+-- last pin is ready by these. Laws: readying-starts, readying-more, readying-ends; topping-starts, topping-small,
+-- topping-more, topping-ends; top-read, tops-long; gate-fields, pin-within, driver-below. Assumes nothing.
+use mathlib.Core.Path.{_≡_, sym, ap, ap₂, _∙_}
+use mathlib.Core.Bool.{false}
+use mathlib.Core.List.{List}
+use Prim.Native.Nat.{ℕ, suc, _+_, _<_, _≤_, max}
+use native.Mathlib.Omega.{arith}
+use native.Mathlib.Numerals.{add-one}
+use native.Mathlib.Decide.{ℕ-discrete}
+use lib.ListN.{length, getD, set, take, drop, replicate, length-set, length-take, length-replicate, getD-replicate}
+use lib.Seq.{length-take-le, getD-take, getD-set-same, getD-set-other, ext-getD}
+use Rattle.netlist.specs.declared.Shape.{Shape}
+use Rattle.netlist.specs.declared.Gate.{Gate}
+use Rattle.netlist.specs.Netlist.{Netlist}
+use Rattle.netlist.specs.File.{netlistAt, cellAt, gateAt, pinAt, firstAt, countAt, driverAt, delayAt}
+use Rattle.netlist.specs.Holds.{Holds}
+use Rattle.netlist.proofs.Entries.{
+  gate-first,
+  gate-count,
+  pin-driver,
+  pin-delay,
+  pins-from,
+  pins-done,
+  net-inputs,
+  node-count,
+  node-has,
+}
+use Rattle.settle.specs.Settling.{last, readyAt, topOf, topsOf, atZero}
+use Rattle.settle.proofs.Argument.{last-cong}
+use Rattle.settle.proofs.Nodes.{laid, runs, input-top, tops-length, tops-small}
+use Rattle.pairs.specs.Promise.{Tops}
+
+-- a gate as it is read: its first pin and their number
+pub gate-fields : (file : List ℕ) (shape : Shape) (i : ℕ) (g : Gate) → g ≡ gateAt file shape i →
+    (g .first ≡ firstAt file shape i) × (g .count ≡ countAt file shape i)
+gate-fields file shape i g e = (
+  ap (λ (x : Gate). x .first) e ∙ gate-first file shape i,
+  ap (λ (x : Gate). x .count) e ∙ gate-count file shape i,
+)
+
+-- a pin of a gate is one of the file's
+pub pin-within : {file : List ℕ} {shape : Shape} {number : ℕ} (g : Gate) → Holds file shape → number < shape .gates →
+    g ≡ gateAt file shape number → g .first + g .count ≤ shape .pins
+pin-within {file} {shape} {number} g holds h own =
+    let fields = gate-fields file shape number g own in
+    omega (arith, fields .0, fields .1, holds .pins-within number h)
+
+-- and is driven from below the gate
+pub driver-below : {file : List ℕ} {shape : Shape} {number : ℕ} (g : Gate) (k driver : ℕ) → Holds file shape →
+    number < shape .gates → g ≡ gateAt file shape number → k < g .count →
+    driver ≡ driverAt file shape (g .first + k) → driver < shape .inputs + number
+driver-below {file} {shape} {number} g k driver holds h own l e =
+    let fields = gate-fields file shape number g own in
+    let low : firstAt file shape number ≤ g .first + k = omega (arith, fields .0) in
+    let high : g .first + k < firstAt file shape number + countAt file shape number =
+    omega (arith, fields .0, fields .1)
+    in
+    omega (arith, e, holds .drivers-below number (g .first + k) h low high)
+
+-- ---- when the last pin of a gate is ready
+
+-- what is ready so far, and what is left
+pub record Readying (file : List ℕ) (shape : Shape) (number : ℕ) (tops : List ℕ) (latest k : ℕ) : Type 0 where
+  pub left :
+      max latest (last (readyAt (λ node. getD tops node 0)) (drop k (cellAt file shape number .pins)))
+      ≡ last (readyAt (λ node. getD tops node 0)) (cellAt file shape number .pins)
+
+pub readying-starts : (file : List ℕ) (shape : Shape) (number : ℕ) (tops : List ℕ) →
+    Readying file shape number tops 0 0
+readying-starts file shape number tops = record { left = omega arith }
+
+pub readying-more : {file : List ℕ} {shape : Shape} {number : ℕ} {tops : List ℕ} {latest k : ℕ}
+    (g : Gate) (driver delay top z : ℕ) → g ≡ gateAt file shape number → Readying file shape number tops latest k →
+    k < g .count → driver ≡ driverAt file shape (g .first + k) → delay ≡ delayAt file shape (g .first + k) →
+    top ≡ getD tops driver 0 → z ≡ max latest (top + delay) → Readying file shape number tops z (k + 1)
+readying-more {file} {shape} {number} {tops} {latest} {k} g driver delay top z own b h e f t q =
+    let pins = cellAt file shape number .pins in
+    let ready = readyAt (λ node. getD tops node 0) in
+    let fields = gate-fields file shape number g own in
+    let pin = firstAt file shape number + k in
+    let same : g .first + k ≡ firstAt file shape number + k = omega (arith, fields .0) in
+    let r : readyAt (λ node. getD tops node 0) (pinAt file shape pin) ≡ top + delay =
+    ap₂ (λ (n d : ℕ). getD tops n 0 + d)
+    (pin-driver file shape pin ∙ sym (e ∙ ap (driverAt file shape) same))
+    (pin-delay file shape pin ∙ sym (f ∙ ap (delayAt file shape) same))
+    ∙ ap (λ (n : ℕ). n + delay) (sym t)
+    in
+    let s : last (readyAt (λ node. getD tops node 0)) (drop k (cellAt file shape number .pins))
+    ≡ max (top + delay) (last (readyAt (λ node. getD tops node 0)) (drop (suc k) (cellAt file shape number .pins))) =
+    ap (last ready) (pins-from file shape number k (omega (arith, fields .1)))
+    ∙ ap (λ (n : ℕ). max n (last ready (drop (suc k) pins))) r
+    in
+    record { left = rw (add-one k) (omega (arith, b .left, s, q)) }
+
+pub readying-ends : {file : List ℕ} {shape : Shape} {number : ℕ} {tops : List ℕ} {latest k : ℕ} (g : Gate) →
+    g ≡ gateAt file shape number → Readying file shape number tops latest k → g .count ≤ k →
+    latest ≡ last (readyAt (λ node. getD tops node 0)) (cellAt file shape number .pins)
+readying-ends {file} {shape} {number} {tops} {latest} {k} g own b h =
+    let fields = gate-fields file shape number g own in
+    let s : last (readyAt (λ node. getD tops node 0)) (drop k (cellAt file shape number .pins)) ≡ 0 =
+    ap (last (readyAt (λ node. getD tops node 0))) (pins-done file shape number k (omega (arith, fields .1)))
+    in
+    omega (arith, b .left, s)
+
+-- ---- all nodes
+
+-- the nodes before gate i have their tops
+pub record Topping (file : List ℕ) (shape : Shape) (tops : List ℕ) (i : ℕ) : Type 0 where
+  pub long : shape .inputs + shape .gates ≤ length tops
+  pub is : (k : ℕ) → k < shape .inputs + i →
+      getD tops k 0 ≡ topOf (netlistAt file shape) (atZero (netlistAt file shape)) k
+
+module _ {file : List ℕ} {shape : Shape} (holds : Holds file shape) where
+  abbrev net : Netlist
+  net = netlistAt file shape
+
+  zeros : length (atZero net) ≡ net .inputs
+  zeros = length-replicate (net .inputs) 0
+
+  pub topping-starts : (tops : List ℕ) (n : ℕ) → shape .inputs + shape .gates ≤ n → tops ≡ replicate n 0 →
+      Topping file shape tops 0
+  topping-starts tops n h e =
+      record {
+        long = omega (arith, ap length e ∙ length-replicate n 0);
+        is =
+            λ k l.
+            let i : k < netlistAt file shape .inputs = omega (arith, net-inputs file shape) in
+            ap (λ (x : List ℕ). getD x k 0) e
+            ∙ getD-replicate {A = ℕ} n k 0 0 (omega arith)
+            ∙ sym (getD-replicate {A = ℕ} (net .inputs) k 0 0 i)
+            ∙ sym (input-top net (atZero net) zeros k i);
+      }
+
+  -- when gate i's last pin is ready by the tops so far is its top
+  topping-value : {tops : List ℕ} {i : ℕ} (r : ℕ) → Topping file shape tops i → i < shape .gates →
+      r ≡ last (readyAt (λ node. getD (take (shape .inputs + i) tops) node 0)) (cellAt file shape i .pins) →
+      r ≡ topOf (netlistAt file shape) (atZero (netlistAt file shape)) (shape .inputs + i)
+  topping-value {tops} {i} r b h e =
+      let node = shape .inputs + i in
+      let cell = cellAt file shape i in
+      let m = node-has file shape i h in
+      e
+      ∙ last-cong (readyAt (λ node. getD (take (shape .inputs + i) tops) node 0)) (readyAt (topOf net (atZero net)))
+      (cell .pins)
+      (λ p j.
+      let l = laid net (holds .valid) .below node cell m p j in
+      ap (λ (n : ℕ). n + p .delay) (getD-take node tops (p .driver) 0 l ∙ b .is (p .driver) l))
+      ∙ sym
+      (runs net (holds .valid) (atZero net) zeros (replicate (net .inputs) false) (length-replicate (net .inputs) false)
+      .top-fixed node cell m)
+
+  -- and is small
+  pub topping-small : {tops : List ℕ} {i : ℕ} (r : ℕ) → Topping file shape tops i → i < shape .gates →
+      r ≡ last (readyAt (λ node. getD (take (shape .inputs + i) tops) node 0)) (cellAt file shape i .pins) → r ≤ 447552
+  topping-small {tops} {i} r b h e =
+      omega (arith, topping-value r b h e, tops-small net (holds .valid) (shape .inputs + i))
+
+  pub topping-more : {tops : List ℕ} {i : ℕ} (r : ℕ) → Topping file shape tops i → i < shape .gates →
+      r ≡ last (readyAt (λ node. getD (take (shape .inputs + i) tops) node 0)) (cellAt file shape i .pins) →
+      Topping file shape (set tops (shape .inputs + i) r) (i + 1)
+  topping-more {tops} {i} r b h e =
+      record {
+        long = rw length-set (b .long);
+        is = λ k l. pick k l (ℕ-discrete k (shape .inputs + i));
+      }
+    where
+      pick : (k : ℕ) → k < shape .inputs + (i + 1) → Dec (k ≡ shape .inputs + i) →
+          getD (set tops (shape .inputs + i) r) k 0 ≡ topOf net (atZero net) k
+      pick k l (yes q) =
+          ap (λ (n : ℕ). getD (set tops (shape .inputs + i) r) n 0) q
+          ∙ getD-set-same tops (shape .inputs + i) r 0 (omega (arith, b .long))
+          ∙ topping-value r b h e
+          ∙ ap (topOf net (atZero net)) (sym q)
+      pick k l (no q) = getD-set-other tops (shape .inputs + i) k r 0 q ∙ b .is k (omega arith)
+
+  pub topping-ends : {tops : List ℕ} {i : ℕ} → Topping file shape tops i → shape .gates ≤ i → Tops file shape tops
+  topping-ends {tops} {i} b h =
+      let n = shape .inputs + shape .gates in
+      let e : length (take n tops) ≡ n = length-take-le n tops (b .long) in
+      record {
+        is =
+            ext-getD 0 (take n tops) (topsOf net (atZero net))
+            (e ∙ sym (tops-length net (atZero net) zeros ∙ node-count file shape))
+            (λ k l.
+            let q : k < shape .inputs + shape .gates = omega arith in
+            getD-take n tops k 0 q ∙ b .is k (omega arith));
+      }
+
+  -- what is read at a node's number is its top, and small
+  pub top-read : {tops : List ℕ} (f x : ℕ) → Tops file shape tops → f < shape .inputs + shape .gates →
+      x ≡ getD tops f 0 → (x ≡ topOf (netlistAt file shape) (atZero (netlistAt file shape)) f) × (x ≤ 447552)
+  top-read {tops} f x b h e =
+      let q : x ≡ topOf (netlistAt file shape) (atZero (netlistAt file shape)) f =
+      e ∙ sym (getD-take (shape .inputs + shape .gates) tops f 0 h) ∙ ap (λ (l : List ℕ). getD l f 0) (b .is)
+      in
+      (q, omega (arith, q, tops-small net (holds .valid) f))
+
+  -- a slice that begins with the tops is long enough
+  pub tops-long : {tops : List ℕ} → Tops file shape tops → shape .inputs + shape .gates ≤ length tops
+  tops-long {tops} b =
+      let e = ap length (b .is) ∙ tops-length net (atZero net) zeros ∙ node-count file shape in
+      omega (arith, length-take (shape .inputs + shape .gates) tops, e)

@@ -1,0 +1,145 @@
+-- The table as a whole: the pairs in its end, moved to the front, with zeros after them; and that the promise leaves
+-- one answer and one content. Laws: lent-length, filled-from, table-held, table-full; held-count, held-too-many;
+-- held-unique; lists-for, held-lists, findable-for. Assumes nothing.
+use mathlib.Core.Path.{_≡_, refl, sym, ap, ap₂, _∙_}
+use mathlib.Core.List.{List, _++_, List·Memᴰ}
+use Prim.Native.Nat.{ℕ, _+_, _*_, _-_, _/_, _<_, _≤_, min}
+use native.Mathlib.Omega.{arith}
+use lib.ListN.{length, take, drop, replicate}
+use lib.Seq.{take-at, drop-append-le, length-take-le, length-front}
+use Rattle.netlist.specs.declared.Shape.{Shape}
+use Rattle.netlist.specs.File.{netlistAt}
+use Rattle.netlist.specs.Holds.{Holds}
+use Rattle.netlist.proofs.Entries.{node-count}
+use Rattle.settle.specs.Settling.{topOf, atZero}
+use Rattle.settle.proofs.Nodes.{tops-small}
+use Rattle.pairs.specs.declared.Filled.{Filled}
+use Rattle.pairs.specs.declared.Filled.the-variants.{From, Full}
+use Rattle.pairs.specs.declared.Listed.{Listed}
+use Rattle.pairs.specs.declared.Listed.the-variants.{Count, TooMany}
+use Rattle.pairs.specs.Pairs.{flatPairs, pairsFor}
+use Rattle.pairs.specs.Table.{Kept}
+use Rattle.pairs.specs.Promise.{pairsAt, Held, Lists, Findable}
+use Rattle.pairs.proofs.Rising.{pairs-rising}
+use Rattle.pairs.proofs.Closed.{pair-for}
+use Rattle.pairs.proofs.Flat.{flat-length}
+
+-- ---- the cases of an answer
+
+kept-from : (l : List (ℕ × ℕ)) (room : ℕ) (t : List ℕ) (r : Filled) (k : ℕ) → Kept l room t r → r ≡ From k →
+    (k + length l ≡ room) × (drop (k * 2) t ≡ flatPairs l)
+kept-from l room t r k h e = rw e at h
+
+kept-full : (l : List (ℕ × ℕ)) (room : ℕ) (t : List ℕ) (r : Filled) → Kept l room t r → r ≡ Full →
+    room < length l
+kept-full l room t r h e = rw e at h
+
+pub held-count : (l : List (ℕ × ℕ)) (room : ℕ) (t : List ℕ) (r : Listed) (n : ℕ) → Held l room t r → r ≡ Count n →
+    (n ≡ length l) × (n ≤ min (room / 2) 65536) × (t ≡ flatPairs l ++ replicate (room - n * 2) 0)
+held-count l room t r n h e = rw e at h
+
+pub held-too-many : (l : List (ℕ × ℕ)) (room : ℕ) (t : List ℕ) (r : Listed) → Held l room t r → r ≡ TooMany →
+    (min (room / 2) 65536 < length l) × (t ≡ replicate room 0)
+held-too-many l room t r h e = rw e at h
+
+-- ---- the two ends of `table`
+
+-- the part of the table that is lent to `fill` holds `cap` pairs
+module _ (l : List (ℕ × ℕ)) (table filled : List ℕ) (cap : ℕ) (r : Filled)
+    (all : cap ≡ min (length table / 2) 65536)
+    (kept : Kept l (length (take (cap * 2) table) / 2) filled r) where
+  pub lent-length : length (take (cap * 2) table) ≡ cap * 2
+  lent-length = length-take-le (cap * 2) table (omega arith)
+
+  -- they begin at k
+  pub filled-from : (k : ℕ) → r ≡ From k → k + length l ≡ cap
+  filled-from k e = omega (arith, kept-from l (length (take (cap * 2) table) / 2) filled r k kept e .0, lent-length)
+
+  -- moved down, and with zeros after them
+  pub table-held : (k : ℕ) (moved zeroed : List ℕ) → r ≡ From k → length filled ≡ length (take (cap * 2) table) →
+      moved
+      ≡ take ((cap - k) * 2) (drop (k * 2) (filled ++ drop (cap * 2) table))
+      ++ drop ((cap - k) * 2) (filled ++ drop (cap * 2) table) →
+      length moved ≡ length (filled ++ drop (cap * 2) table) →
+      zeroed ≡ take ((cap - k) * 2) moved ++ replicate (length moved - (cap - k) * 2) 0 →
+      Held l (length table) zeroed (Count (cap - k))
+  table-held k moved zeroed e len down long zero =
+      let n = cap - k in
+      let more = drop (cap * 2) table in
+      let room = filled-from k e in
+      let q : cap - k ≡ length l = omega (arith, room) in
+      let d : drop (k * 2) (filled ++ drop (cap * 2) table) ≡ flatPairs l ++ drop (cap * 2) table =
+      drop-append-le (k * 2) filled more (omega (arith, room, len, lent-length))
+      ∙ ap (λ (x : List ℕ). x ++ more) (kept-from l (length (take (cap * 2) table) / 2) filled r k kept e .1)
+      in
+      let f : length (flatPairs l) ≡ (cap - k) * 2 = flat-length l ∙ omega (arith, q) in
+      let g : take ((cap - k) * 2) (drop (k * 2) (filled ++ drop (cap * 2) table)) ≡ flatPairs l =
+      ap (take (n * 2)) d ∙ take-at (flatPairs l) more (n * 2) f
+      in
+      let p : take ((cap - k) * 2) moved ≡ flatPairs l =
+      ap (take (n * 2)) (down ∙ ap (λ (x : List ℕ). x ++ drop (n * 2) (filled ++ more)) g)
+      ∙ take-at (flatPairs l) (drop (n * 2) (filled ++ more)) (n * 2) f
+      in
+      let s : length moved ≡ length table = long ∙ length-front table filled (cap * 2) len in (
+        q,
+        omega (arith, room),
+        zero ∙ ap₂ (λ (x : List ℕ) (y : ℕ). x ++ replicate (y - n * 2) 0) p s,
+      )
+
+  -- or there is no room for them, and all is zeros
+  pub table-full : (zeroed : List ℕ) → r ≡ Full → length filled ≡ length (take (cap * 2) table) →
+      zeroed
+      ≡ take 0 (filled ++ drop (cap * 2) table) ++ replicate (length (filled ++ drop (cap * 2) table) - 0) 0 →
+      Held l (length table) zeroed TooMany
+  table-full zeroed e len zero =
+      let k = kept-full l (length (take (cap * 2) table) / 2) filled r kept e in
+      let s = length-front table filled (cap * 2) len in
+      let q : length (filled ++ drop (cap * 2) table) - 0 ≡ length table = omega (arith, s) in
+      (omega (arith, k, lent-length), zero ∙ ap (λ (n : ℕ). replicate n 0) q)
+
+-- ---- what the promise leaves
+
+-- one answer and one content
+pub held-unique : (l : List (ℕ × ℕ)) (room : ℕ) (t u : List ℕ) (r s : Listed) → Held l room t r → Held l room u s →
+    (t ≡ u) × (r ≡ s)
+held-unique l room t u (Count n) (Count m) h k =
+    let e : n ≡ m = h .0 ∙ sym (k .0) in
+    (h .2 ∙ ap (λ (x : ℕ). flatPairs l ++ replicate (room - x * 2) 0) e ∙ sym (k .2), ap Count e)
+held-unique l room t u (Count n) TooMany h k = absurd (omega (arith, h .0, h .1, k .0))
+held-unique l room t u TooMany (Count m) h k = absurd (omega (arith, h .0, k .0, k .1))
+held-unique l room t u TooMany TooMany h k = (h .1 ∙ sym (k .1), refl)
+
+-- a table that begins with the pairs of an accepted file's target lists them: what `place` asks
+pub lists-for : {file : List ℕ} {shape : Shape} (target : ℕ) (table : List ℕ) (n : ℕ) → Holds file shape →
+    n ≡ length (pairsAt file shape target) → take (n * 2) table ≡ flatPairs (pairsAt file shape target) →
+    Lists table n (pairsAt file shape target)
+unfolding pairsFor
+lists-for {file} {shape} target table n holds e f =
+    let net = netlistAt file shape in
+    record {
+      all = e;
+      is = f;
+      rising = pairs-rising (net .inputs) (topOf net (atZero net)) (net .outputs) target (net .gates);
+      nodes-small =
+          λ x m.
+          let w = pair-for net (holds .valid) (atZero net) target (x .0) (x .1) m in
+          omega (arith, w .1, node-count file shape, holds .inputs-few, holds .gates-few);
+      times-small =
+          λ x m.
+          let w = pair-for net (holds .valid) (atZero net) target (x .0) (x .1) m in
+          omega (arith, w .3, tops-small net (holds .valid) (x .0));
+    }
+
+-- and such is what `table` leaves
+pub held-lists : {file : List ℕ} {shape : Shape} (target room : ℕ) (table : List ℕ) (n : ℕ) → Holds file shape →
+    Held (pairsAt file shape target) room table (Count n) → Lists table n (pairsAt file shape target)
+held-lists {file} {shape} target room table n holds h =
+    let l = pairsAt file shape target in
+    let f : length (flatPairs (pairsAt file shape target)) ≡ n * 2 = flat-length l ∙ omega (arith, h .0) in
+    lists-for target table n holds (h .0)
+    (ap (take (n * 2)) (h .2) ∙ take-at (flatPairs l) (replicate (room - n * 2) 0) (n * 2) f)
+
+-- a pair of the list can be looked for in a table that lists them
+pub findable-for : {table : List ℕ} {count node time : ℕ} {pairs : List (ℕ × ℕ)} → Lists table count pairs →
+    List·Memᴰ (node, time) pairs → Findable table count node time
+findable-for {pairs = pairs} w m = record { pairs = pairs; lists = w; here = m }

@@ -1,0 +1,14 @@
+-- The definitions run on circuit A: its pairs at T=3 and the table that they make; none at T=6.
+use mathlib.Core.Path.{_≡_, refl}
+use mathlib.Core.List.{[], _∷_}
+use Rattle.netlist.specs.Example.{describedA}
+use Rattle.settle.specs.Settling.{grow, topsOf, atZero}
+use Rattle.pairs.specs.Pairs.{asked, timesAt, pairList, pairsFor, flatPairs, placeOf}
+
+pub pairsA :
+    (pairsFor describedA (atZero describedA) 3 ≡ (2, 1) ∷ (3, 2) ∷ (4, 3) ∷ [])
+    × (flatPairs (pairsFor describedA (atZero describedA) 3) ≡ 2 ∷ 1 ∷ 3 ∷ 2 ∷ 4 ∷ 3 ∷ [])
+    × (placeOf 3 2 (pairsFor describedA (atZero describedA) 3) ≡ 1)
+    × (pairsFor describedA (atZero describedA) 6 ≡ [])
+unfolding describedA grow topsOf asked timesAt pairList pairsFor flatPairs placeOf
+pairsA = (refl, refl, refl, refl)

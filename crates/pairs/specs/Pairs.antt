@@ -1,0 +1,53 @@
+-- The pairs of a target: "the least set holding each output's pair at T and, for each pair (f, t) and each pin of f,
+-- the driver's pair at t less the pin's delay". Interface: isPair, Asked (those words), pairList (the same as a list,
+-- in the order of the variables), pairsFor (of a netlist), flatPairs (the lent table), placeOf (a pair's place).
+use mathlib.Core.Path.{_≡_}
+use mathlib.Core.Bool.{Bool, true, false, not, _&&_, _||_, cond}
+use mathlib.Core.List.{List, [], _∷_, _++_, map, List·Memᴰ}
+use Prim.Native.Nat.{ℕ, zero, suc, _+_, _-_}
+use lib.Dec.{T, leb, ltb, eqb}
+use Rattle.basics.specs.Lists.{any, keep, concatMap, upFrom, numbered}
+use Rattle.netlist.specs.Netlist.{Netlist, Cell, Pin}
+use Rattle.settle.specs.Settling.{topOf}
+
+-- I inputs, the nodes' tops, the outputs and the target
+module _ (I : ℕ) (top : ℕ → ℕ) (outputs : List ℕ) (target : ℕ) where
+  -- "node late at t" is neither true outright (t is 0) nor false outright (t exceeds the top), and the node is a gate:
+  -- an input is late up to its top and not beyond
+  abbrev pub isPair : ℕ → ℕ → Bool
+  isPair node t = not (ltb node I) && (ltb 0 t && leb t (top node))
+
+  -- the least set: what an output asks for, and what a pin of a pair's gate asks for
+  pub data Asked (gates : List (ℕ × Cell)) : ℕ → ℕ → Type 0 where
+    output : {f : ℕ} → List·Memᴰ f outputs → T (isPair f target) → Asked gates f target
+    driver : {f s : ℕ} {g : Cell} {p : Pin} → List·Memᴰ (f, g) gates → List·Memᴰ p (g .pins) → Asked gates f s →
+        T (isPair (p .driver) (s - p .delay)) → Asked gates (p .driver) (s - p .delay)
+
+  -- is (f, t) asked for by the outputs, or by one of the gates whose nodes start at k
+  unfoldable pub asked : ℕ → List Cell → ℕ → ℕ → Bool
+  asked k [] f t = isPair f t && (eqb t target && any (λ o. eqb o f) outputs)
+  asked k (g ∷ gs) f t =
+      asked (suc k) gs f t
+      || (isPair f t && any (λ p. eqb (p .driver) f && asked (suc k) gs k (t + p .delay)) (g .pins))
+
+  -- the times of a node's pairs, rising
+  unfoldable pub timesAt : List Cell → ℕ → List ℕ
+  timesAt gates f = keep (asked I gates f) (upFrom 1 (top f))
+
+  -- "by node rising, then t rising"
+  unfoldable pub pairList : List Cell → List (ℕ × ℕ)
+  pairList gates = concatMap (λ x. map (λ t. (x .0, t)) (timesAt gates (x .0))) (numbered I gates)
+
+-- "In the lent table a pair is two numbers, node then t."
+unfoldable pub flatPairs : List (ℕ × ℕ) → List ℕ
+flatPairs [] = []
+flatPairs (x ∷ xs) = x .0 ∷ x .1 ∷ flatPairs xs
+
+-- the pairs of a netlist's target, in the order of their variables
+unfoldable pub pairsFor : Netlist → List ℕ → ℕ → List (ℕ × ℕ)
+pairsFor net arrivals target = pairList (net .inputs) (topOf net arrivals) (net .outputs) target (net .gates)
+
+-- the place of a pair in a list of pairs
+unfoldable pub placeOf : ℕ → ℕ → List (ℕ × ℕ) → ℕ
+placeOf f t [] = 0
+placeOf f t (x ∷ xs) = cond (eqb (x .0) f && eqb (x .1) t) 0 (suc (placeOf f t xs))

@@ -1,0 +1,40 @@
+-- What `tops`, `table` and `place` promise. Interface: all of it.
+use mathlib.Core.Path.{_≡_}
+use mathlib.Core.List.{List, _++_, List·Memᴰ}
+use Prim.Native.Nat.{ℕ, _+_, _-_, _*_, _/_, _≤_, _<_, min}
+use lib.ListN.{length, take, replicate}
+use Rattle.netlist.specs.declared.Shape.{Shape}
+use Rattle.netlist.specs.File.{netlistAt}
+use Rattle.settle.specs.Settling.{topsOf, atZero}
+use Rattle.pairs.specs.declared.Listed.{Listed}
+use Rattle.pairs.specs.declared.Listed.the-variants.{Count, TooMany}
+use Rattle.pairs.specs.Pairs.{flatPairs, pairsFor}
+use Rattle.pairs.specs.Rising.{Before, Rising}
+
+-- a lent slice begins with the tops of all nodes
+pub record Tops (file : List ℕ) (shape : Shape) (tops : List ℕ) : Type 0 where
+  pub is : take (shape .inputs + shape .gates) tops ≡ topsOf (netlistAt file shape) (atZero (netlistAt file shape))
+
+-- the pairs of an accepted file's target
+abbrev pub pairsAt : List ℕ → Shape → ℕ → List (ℕ × ℕ)
+pairsAt file shape target = pairsFor (netlistAt file shape) (atZero (netlistAt file shape)) target
+
+-- the pairs and then zeros; or, where they are "more pairs than the table holds, or than 65,536", zeros
+abbrev pub Held : List (ℕ × ℕ) → ℕ → List ℕ → Listed → Type 0
+Held pairs room table (Count n) =
+    (n ≡ length pairs) × (n ≤ min (room / 2) 65536) × (table ≡ flatPairs pairs ++ replicate (room - n * 2) 0)
+Held pairs room table TooMany = (min (room / 2) 65536 < length pairs) × (table ≡ replicate room 0)
+
+-- the table begins with these pairs, which rise
+pub record Lists (table : List ℕ) (count : ℕ) (pairs : List (ℕ × ℕ)) : Type 0 where
+  pub all : count ≡ length pairs
+  pub is : take (count * 2) table ≡ flatPairs pairs
+  pub rising : Rising Before pairs
+  pub nodes-small : (x : ℕ × ℕ) → List·Memᴰ x pairs → x .0 < 4294967296
+  pub times-small : (x : ℕ × ℕ) → List·Memᴰ x pairs → x .1 < 4294967296
+
+-- and a pair is one of them
+pub record Findable (table : List ℕ) (count node time : ℕ) : Type 0 where
+  pub pairs : List (ℕ × ℕ)
+  pub lists : Lists table count pairs
+  pub here : List·Memᴰ (node, time) pairs
