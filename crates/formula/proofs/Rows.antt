@@ -1,0 +1,212 @@
+-- The rows of the promise one at a time, and what the code leaves at each end. Assumes nothing.
+use mathlib.Core.Path.{_≡_, refl, sym, ap, ap₂, _∙_, subst}
+use mathlib.Core.List.{List, [], _∷_, _++_}
+use Prim.Native.Nat.{ℕ, _+_, _-_, _*_, _/_, _≤_, _<_, min}
+use native.Mathlib.Omega.{arith}
+use lib.IntN.{ℤ, pos}
+use lib.ListN.{length, take, replicate, length-append, length-replicate}
+use lib.Seq.{take-at}
+use borrow.Author.Tests.{lt-ltb, le-ltb}
+use Rattle.basics.specs.Lists.{concatMap}
+use Rattle.refusal.specs.declared.Refusal.{Refusal}
+use Rattle.refusal.specs.declared.Refusal.the-variants.{Pairs, Room}
+use Rattle.netlist.specs.declared.Shape.{Shape}
+use Rattle.netlist.specs.declared.Opened.{Opened}
+use Rattle.netlist.specs.declared.Opened.the-variants.{Accepted, Refused as Rejected}
+use Rattle.netlist.specs.Netlist.{Netlist, nodes, nodeCount}
+use Rattle.netlist.specs.File.{netlistAt}
+use Rattle.netlist.specs.Open.{openOf}
+use Rattle.netlist.specs.Holds.{Holds}
+use Rattle.netlist.proofs.Entries.{node-count}
+use Rattle.settle.specs.Settling.{atZero}
+use Rattle.clauses.specs.Clauses.{flat}
+use Rattle.pairs.specs.declared.Listed.{Listed}
+use Rattle.pairs.specs.declared.Listed.the-variants.{Count, TooMany}
+use Rattle.pairs.specs.Pairs.{flatPairs, pairsFor}
+use Rattle.pairs.specs.Table.{pairsIn}
+use Rattle.pairs.specs.Promise.{Tops, pairsAt, Held}
+use Rattle.pairs.proofs.Flat.{flat-length}
+use Rattle.pairs.proofs.Whole.{held-count, held-too-many}
+use Rattle.formula.specs.declared.Emitted.{Emitted}
+use Rattle.formula.specs.declared.Counts.{Counts}
+use Rattle.formula.specs.declared.Built.{Built}
+use Rattle.formula.specs.declared.Built.the-variants.{Formula, Refused}
+use Rattle.formula.specs.Formula.{formulaFor}
+use Rattle.formula.specs.Promise.{
+  Building,
+  refused,
+  numbersFor,
+  countsFor,
+  tableHolds,
+  built,
+  buildingOf,
+  buildingBy,
+  building,
+}
+use Rattle.formula.specs.Emission.{start, cellRun, Emits}
+use Rattle.formula.specs.Late.{pairRun, outputsLate, AllStand, OutputsAsk, Slices}
+use Rattle.formula.proofs.Emission.{emits-as}
+use Rattle.formula.proofs.Numbers.{Numbered, emits-numbers}
+use Rattle.formula.proofs.Table.{topsAt, tableAt, all-stand, outputs-ask, slices}
+use Rattle.formula.proofs.Whole.{whole-tokens}
+
+-- an answer, and what the two slices hold, are those of a promise
+abbrev pub Meets : Building → Built → List ℕ → List ℤ → Type 0
+Meets b answer pairs formula = (answer ≡ b .answer) × ((pairs ≡ b .pairs) × (formula ≡ b .formula))
+
+-- ---- the rows
+
+module _ (net : Netlist) (target pairsRoom formulaRoom : ℕ) where
+  too-many : tableHolds pairsRoom < length (pairsFor net (atZero net) target) →
+      buildingOf net target pairsRoom formulaRoom ≡ refused pairsRoom formulaRoom Pairs
+  unfolding buildingOf
+  too-many h = rw (lt-ltb (tableHolds pairsRoom) (length (pairsFor net (atZero net) target)) h)
+
+  no-room : length (pairsFor net (atZero net) target) ≤ tableHolds pairsRoom →
+      formulaRoom < length (numbersFor net target) →
+      buildingOf net target pairsRoom formulaRoom
+      ≡ refused pairsRoom formulaRoom (Room (length (numbersFor net target)))
+  unfolding buildingOf
+  no-room h l =
+      rw (
+        le-ltb (tableHolds pairsRoom) (length (pairsFor net (atZero net) target)) h,
+        lt-ltb formulaRoom (length (numbersFor net target)) l,
+      )
+
+  all-room : length (pairsFor net (atZero net) target) ≤ tableHolds pairsRoom →
+      length (numbersFor net target) ≤ formulaRoom →
+      buildingOf net target pairsRoom formulaRoom ≡ built net target pairsRoom formulaRoom
+  unfolding buildingOf
+  all-room h l =
+      rw (
+        le-ltb (tableHolds pairsRoom) (length (pairsFor net (atZero net) target)) h,
+        le-ltb formulaRoom (length (numbersFor net target)) l,
+      )
+
+-- ---- what is lent to `emit`
+
+-- the pairs at the table's front
+pub front : (file : List ℕ) (shape : Shape) (target : ℕ) (table : List ℕ) (count : ℕ) →
+    Held (pairsAt file shape target) (length table) table (Count count) →
+    take (count * 2) table ≡ tableAt file shape target
+front file shape target table count h =
+    let l = pairsAt file shape target in
+    let f : length (flatPairs (pairsAt file shape target)) ≡ count * 2 = flat-length l ∙ omega (arith, h .0) in
+    ap (take (count * 2)) (h .2) ∙ take-at (flatPairs l) (replicate (length table - count * 2) 0) (count * 2) f
+
+module _ (file : List ℕ) (shape : Shape) (target : ℕ) (tops table : List ℕ) (e : tops ≡ topsAt file shape)
+    (f : table ≡ tableAt file shape target) where
+  -- is what `emit` asks
+  pub lent-ready : Holds file shape → length (pairsAt file shape target) ≤ 65536 →
+      Slices shape tops table × AllStand file shape tops table × OutputsAsk file shape tops table target
+  lent-ready ok h =
+      rw (e, f) (slices file shape target ok h, all-stand file shape target ok, outputs-ask file shape target ok)
+
+  -- and what it puts are the formula's numbers
+  pub lent-numbers : {most : ℕ} {before after : List ℤ} {to : Emitted} →
+      Emits most
+      ((concatMap cellRun (nodes (netlistAt file shape))
+      ++ concatMap (pairRun file shape tops table) (pairsIn table))
+      ++ outputsLate file shape tops table target) before start after to →
+      Numbered (formulaFor (netlistAt file shape) (atZero (netlistAt file shape)) target) before after to
+  lent-numbers {most} x =
+      emits-numbers (formulaFor (netlistAt file shape) (atZero (netlistAt file shape)) target)
+      (emits-as most x
+      (ap₂ (λ (t b : List ℕ).
+      (concatMap cellRun (nodes (netlistAt file shape)) ++ concatMap (pairRun file shape t b) (pairsIn b))
+      ++ outputsLate file shape t b target) e f
+      ∙ whole-tokens file shape target)
+      (omega arith))
+
+-- ---- the two ends of `write`
+
+module _ (file : List ℕ) (shape : Shape) (target : ℕ) (table : List ℕ) (count : ℕ)
+    (held : Held (pairsAt file shape target) (length table) table (Count count)) (before after : List ℤ) (to : Emitted)
+    (n : Numbered (formulaFor (netlistAt file shape) (atZero (netlistAt file shape)) target) before after to)
+    (same : length after ≡ length before) where
+  room-held : length (pairsAt file shape target) ≤ tableHolds (length table)
+  room-held = omega (arith, held .0, held .1)
+
+  pub wrote-none : (pairs : List ℕ) (formula : List ℤ) → length after < to .numbers →
+      pairs ≡ replicate (length table) 0 → formula ≡ replicate (length after) (pos 0) →
+      Meets (buildingOf (netlistAt file shape) target (length table) (length before)) (Refused (Room (to .numbers)))
+      pairs formula
+  unfolding numbersFor
+  wrote-none pairs formula h e f =
+      rw (no-room (netlistAt file shape) target (length table) (length before) room-held (omega (arith, n .numbers)))
+      (ap (λ (m : ℕ). Refused (Room m)) (n .numbers), (e, f ∙ ap (λ (m : ℕ). replicate m (pos 0)) same))
+
+  pub wrote-all : (formula : List ℤ) → to .numbers ≤ length after →
+      formula ≡ take (to .numbers) after ++ replicate (length after - to .numbers) (pos 0) →
+      Meets (buildingOf (netlistAt file shape) target (length table) (length before))
+      (Formula (record {
+        variables = shape .inputs + shape .gates + count;
+        pairs = count;
+        clauses = to .clauses;
+        numbers = to .numbers;
+      })) table formula
+  unfolding numbersFor countsFor built
+  wrote-all formula h f =
+      let l = pairsAt file shape target in
+      let cs = formulaFor (netlistAt file shape) (atZero (netlistAt file shape)) target in
+      let made : ℕ → ℕ → ℕ → ℕ → Counts =
+      λ a b c d. record { variables = a; pairs = b; clauses = c; numbers = d }
+      in
+      let v : shape .inputs + shape .gates + count ≡ nodeCount (netlistAt file shape) + length l =
+      omega (arith, held .0, node-count file shape)
+      in
+      let r : length after - to .numbers ≡ length before - length (flat cs) = omega (arith, n .numbers) in
+      rw (all-room (netlistAt file shape) target (length table) (length before) room-held (omega (arith, n .numbers))) (
+        ap Formula
+            (ap₂ (λ (a b : ℕ). made a b (to .clauses) (to .numbers)) v (held .0)
+            ∙ ap₂ (λ (c d : ℕ). made (nodeCount (netlistAt file shape) + length l) (length l) c d) (n .clauses)
+            (n .numbers)),
+        (
+          held .2 ∙ ap (λ (m : ℕ). flatPairs l ++ replicate (length table - m * 2) 0) (held .0),
+          f ∙ ap₂ (λ (x : List ℤ) (m : ℕ). x ++ replicate m (pos 0)) (n .prefix (omega arith)) r,
+        ),
+      )
+
+-- ---- the two ends of `build_from`
+
+-- the table keeps its length
+pub held-length : (l : List (ℕ × ℕ)) (room : ℕ) (table : List ℕ) (listed : Listed) (count : ℕ) →
+    Held l room table listed → listed ≡ Count count → length table ≡ room
+held-length l room table listed count h e =
+    let w = held-count l room table listed count h e in
+    ap length (w .2)
+    ∙ length-append (flatPairs l) (replicate (room - count * 2) 0)
+    ∙ omega (arith, w .0, w .1, flat-length l, length-replicate {A = ℕ} (room - count * 2) 0)
+
+pub held-again : (l : List (ℕ × ℕ)) (room : ℕ) (table : List ℕ) (listed : Listed) (count : ℕ) →
+    Held l room table listed → listed ≡ Count count → Held l (length table) table (Count count)
+held-again l room table listed count h e =
+    rw (held-length l room table listed count h e) (held-count l room table listed count h e)
+
+-- the same promise by the numbers that the caller knows
+pub meets-as : (net : Netlist) (formulaRoom : ℕ) {wanted target long room : ℕ} {answer : Built} {pairs : List ℕ}
+    {formula : List ℤ} → wanted ≡ target → long ≡ room →
+    Meets (buildingOf net wanted long formulaRoom) answer pairs formula →
+    Meets (buildingOf net target room formulaRoom) answer pairs formula
+meets-as net formulaRoom {answer = answer} {pairs = pairs} {formula = formula} e f m =
+    subst (λ (b : Building). Meets b answer pairs formula)
+    (ap₂ (λ (t r : ℕ). buildingOf net t r formulaRoom) e f) m
+
+pub listed-none : (file : List ℕ) (shape : Shape) (target pairsRoom formulaRoom : ℕ) (pairs : List ℕ) (formula : List ℤ)
+    (listed : Listed) → Held (pairsAt file shape target) pairsRoom pairs listed → listed ≡ TooMany →
+    formula ≡ replicate formulaRoom (pos 0) →
+    Meets (buildingOf (netlistAt file shape) target pairsRoom formulaRoom) (Refused Pairs) pairs formula
+listed-none file shape target pairsRoom formulaRoom pairs formula listed h e f =
+    let w = held-too-many (pairsAt file shape target) pairsRoom pairs listed h e in
+    rw (too-many (netlistAt file shape) target pairsRoom formulaRoom (w .0)) (refl, (w .1, f))
+
+module _ (file : List ℕ) (target pairsRoom formulaRoom : ℕ) where
+  pub accepted : (shape : Shape) → openOf file ≡ Accepted shape →
+      building file target pairsRoom formulaRoom ≡ buildingOf (netlistAt file shape) target pairsRoom formulaRoom
+  unfolding building
+  accepted shape e = ap (λ (o : Opened). buildingBy file o target pairsRoom formulaRoom) e
+
+  pub rejected : (refusal : Refusal) → openOf file ≡ Rejected refusal →
+      building file target pairsRoom formulaRoom ≡ refused pairsRoom formulaRoom refusal
+  unfolding building
+  rejected refusal e = ap (λ (o : Opened). buildingBy file o target pairsRoom formulaRoom) e

@@ -1,0 +1,170 @@
+-- The table of an accepted file's target is what the code leans on: each pair stands at its own place, and the pairs
+-- that its drivers and the outputs ask for are in it. Assumes nothing.
+use mathlib.Core.Path.{_≡_, refl, sym, ap, _∙_, subst}
+use mathlib.Core.List.{List, [], _∷_, List·Memᴰ}
+use Prim.Native.Nat.{ℕ, suc, _+_, _-_, _*_, _/_, _≤_, _<_}
+use native.Mathlib.Omega.{arith}
+use native.Mathlib.Decide.{decLt}
+use lib.ListN.{length, getD, take, length-replicate}
+use lib.Seq.{take-all}
+use Rattle.netlist.specs.declared.Shape.{Shape}
+use Rattle.netlist.specs.Netlist.{Netlist, Cell, nodes}
+use Rattle.netlist.specs.File.{firstAt, countAt, driverAt, delayAt, outputAt, gateAt, pinAt, cellAt, netlistAt}
+use Rattle.netlist.specs.Holds.{Holds}
+use Rattle.netlist.proofs.Entries.{node-count, node-has, pin-has, output-has}
+use Rattle.netlist.proofs.Valid.{takes-few}
+use Rattle.settle.specs.Settling.{topsOf, topOf, atZero}
+use Rattle.settle.proofs.Nodes.{tops-length}
+use Rattle.pairs.specs.Pairs.{flatPairs, pairsFor, placeOf}
+use Rattle.pairs.specs.Table.{pairsIn, pairAt, keyOf, Sorted}
+use Rattle.pairs.specs.Promise.{pairsAt, Lists, Findable}
+use Rattle.pairs.proofs.Flat.{flat-length, pairs-flat, mem-at}
+use Rattle.pairs.proofs.Closed.{closed-for, listed-for, pair-for, time-for, place-below, place-at}
+use Rattle.pairs.proofs.Search.{rising-sorted}
+use Rattle.pairs.proofs.Whole.{lists-for}
+use Rattle.formula.specs.Late.{Asking, Drivers, Stands, AllStand, OutputsAsk, Slices}
+use Rattle.formula.proofs.Gates.{gate-read}
+
+-- the tops of an accepted file
+abbrev pub topsAt : List ℕ → Shape → List ℕ
+topsAt file shape = topsOf (netlistAt file shape) (atZero (netlistAt file shape))
+
+-- the numbers of its pairs
+abbrev pub tableAt : List ℕ → Shape → ℕ → List ℕ
+tableAt file shape target = flatPairs (pairsAt file shape target)
+
+-- each pair of a sorted list has its own place
+own-place : (l : List (ℕ × ℕ)) → Sorted l → (k : ℕ) → k < length l →
+    placeOf (pairAt l k .0) (pairAt l k .1) l ≡ k
+own-place l s k h = go (placeOf (pairAt l k .0) (pairAt l k .1) l) below same (decLt _ k) (decLt k _)
+  where
+    m : List·Memᴰ (pairAt l k) l
+    m = mem-at (0, 0) l k h
+
+    below : placeOf (pairAt l k .0) (pairAt l k .1) l < length l
+    below = place-below (pairAt l k .0) (pairAt l k .1) l m
+
+    same : keyOf (pairAt l (placeOf (pairAt l k .0) (pairAt l k .1) l)) ≡ keyOf (pairAt l k)
+    same = ap keyOf (place-at (pairAt l k .0) (pairAt l k .1) l (0, 0) m)
+
+    go : (j : ℕ) → j < length l → keyOf (pairAt l j) ≡ keyOf (pairAt l k) → Dec (j < k) → Dec (k < j) → j ≡ k
+    go j b e (yes x) y = absurd (omega (arith, s .up j k x h, e))
+    go j b e (no x) (yes y) = absurd (omega (arith, s .up k j y b, e))
+    go j b e (no x) (no y) = omega arith
+
+module _ (file : List ℕ) (shape : Shape) (target : ℕ) (ok : Holds file shape) where
+  half : length (tableAt file shape target) / 2 ≡ length (pairsAt file shape target)
+  half = let e = flat-length (pairsAt file shape target) in omega arith
+
+  lists : Lists (tableAt file shape target) (length (tableAt file shape target) / 2) (pairsAt file shape target)
+  lists =
+      let e = flat-length (pairsAt file shape target) in
+      lists-for target (tableAt file shape target) (length (tableAt file shape target) / 2) ok half
+      (take-all (length (tableAt file shape target) / 2 * 2) (tableAt file shape target) (omega arith))
+
+  all-tops : length (topsAt file shape) ≡ shape .inputs + shape .gates
+  all-tops =
+      tops-length (netlistAt file shape) (atZero (netlistAt file shape))
+      (length-replicate (netlistAt file shape .inputs) 0)
+      ∙ node-count file shape
+
+  asking : (node t : ℕ) → node < shape .inputs + shape .gates →
+      (shape .inputs ≤ node → 0 < t → t ≤ getD (topsAt file shape) node 0 →
+      List·Memᴰ (node, t) (pairsAt file shape target)) →
+      Asking shape (topsAt file shape) (tableAt file shape target) node t
+  asking node t h m =
+      record {
+        node-has = omega (arith, all-tops);
+        listed = λ a b c. record { pairs = pairsAt file shape target; lists = lists; here = m a b c };
+      }
+
+  -- ---- a pair
+
+  module _ (f t : ℕ) (m : List·Memᴰ (f, t) (pairsAt file shape target)) where
+    within : (shape .inputs ≤ f) × (f < shape .inputs + shape .gates)
+    unfolding netlistAt
+    within =
+        let w = pair-for (netlistAt file shape) (ok .valid) (atZero (netlistAt file shape)) target f t m in
+        let n = node-count file shape in
+        (w .0, omega (arith, w .1))
+
+    gate-here : f - shape .inputs < shape .gates
+    gate-here = omega (arith, within .0, within .1)
+
+    cell-here : List·Memᴰ (f, cellAt file shape (f - shape .inputs)) (nodes (netlistAt file shape))
+    cell-here =
+        let e : shape .inputs + (f - shape .inputs) ≡ f = omega (arith, within .0) in
+        subst (λ (n : ℕ). List·Memᴰ (n, cellAt file shape (f - shape .inputs)) (nodes (netlistAt file shape))) e
+        (node-has file shape (f - shape .inputs) gate-here)
+
+    count-few : countAt file shape (f - shape .inputs) < 256
+    unfolding gateAt
+    count-few =
+        let r =
+        gate-read file shape ok (f - shape .inputs) gate-here (gateAt file shape (f - shape .inputs)) refl
+        in
+        let l =
+        takes-few (gateAt file shape (f - shape .inputs) .kind) (gateAt file shape (f - shape .inputs) .count)
+        (r .takes-them)
+        in
+        omega arith
+
+    drivers : Drivers file shape (topsAt file shape) (tableAt file shape target)
+        (firstAt file shape (f - shape .inputs)) (countAt file shape (f - shape .inputs)) t
+    unfolding netlistAt pinAt
+    drivers =
+        let net = netlistAt file shape in
+        let g = f - shape .inputs in
+        record {
+          within = ok .pins-within g gate-here;
+          few = count-few;
+          asks =
+              λ pin l h.
+              let b = ok .drivers-below g pin gate-here l h in
+              asking (driverAt file shape pin) (t - delayAt file shape pin) (omega (arith, gate-here))
+              (λ x y z.
+              listed-for net (ok .valid) (atZero net) target (driverAt file shape pin) (t - delayAt file shape pin)
+              (closed-for net (ok .valid) (atZero net) target .drivers-in f (cellAt file shape g) cell-here t
+              (time-for net (ok .valid) (atZero net) target f t m) (pinAt file shape pin) (pin-has file shape g pin l h)
+              x y z));
+        }
+
+  pub all-stand : AllStand file shape (topsAt file shape) (tableAt file shape target)
+  all-stand =
+      record {
+        stands =
+            λ k h.
+            let l = pairsAt file shape target in
+            let b : k < length (pairsAt file shape target) = omega (arith, half) in
+            let m = mem-at (0, 0) l k b in
+            rw (pairs-flat l)
+            (record {
+              low = within (pairAt l k .0) (pairAt l k .1) m .0;
+              high = within (pairAt l k .0) (pairAt l k .1) m .1;
+              own = rw (pairs-flat l) (own-place l (rising-sorted l (lists .rising) (lists .times-small)) k b);
+              drivers = drivers (pairAt l k .0) (pairAt l k .1) m;
+            });
+      }
+
+  pub outputs-ask : OutputsAsk file shape (topsAt file shape) (tableAt file shape target) target
+  unfolding netlistAt
+  outputs-ask =
+      let net = netlistAt file shape in
+      record {
+        asks =
+            λ position h.
+            asking (outputAt file shape position) target (ok .outputs-nodes position h)
+            (λ x y z.
+            listed-for net (ok .valid) (atZero net) target (outputAt file shape position) target
+            (closed-for net (ok .valid) (atZero net) target .outputs-in (outputAt file shape position)
+            (output-has file shape position h) x y z));
+      }
+
+  pub slices : length (pairsAt file shape target) ≤ 65536 →
+      Slices shape (topsAt file shape) (tableAt file shape target)
+  slices h =
+      record {
+        nodes-few = omega (arith, ok .inputs-few, ok .gates-few);
+        tops-all = all-tops;
+        pairs-few = omega (arith, flat-length (pairsAt file shape target));
+      }

@@ -1,0 +1,17 @@
+-- For each input one answer and one content of each lent slice: two results that meet the promise are the same, since
+-- the promise is an equation for each of the three. Assumes nothing.
+use mathlib.Core.Path.{_≡_, sym, _∙_}
+use mathlib.Core.List.{List}
+use Prim.Native.Nat.{ℕ}
+use lib.IntN.{ℤ}
+use Rattle.formula.specs.declared.Built.{Built}
+use Rattle.formula.specs.Promise.{Building, building}
+use Rattle.formula.proofs.Rows.{Meets}
+
+pub build-unique : (file : List ℕ) (target pairsRoom formulaRoom : ℕ) (answer answer′ : Built) (pairs pairs′ : List ℕ)
+    (formula formula′ : List ℤ) →
+    Meets (building file target pairsRoom formulaRoom) answer pairs formula →
+    Meets (building file target pairsRoom formulaRoom) answer′ pairs′ formula′ →
+    (answer ≡ answer′) × ((pairs ≡ pairs′) × (formula ≡ formula′))
+build-unique file target pairsRoom formulaRoom answer answer′ pairs pairs′ formula formula′ a b =
+    (a .0 ∙ sym (b .0), (a .1 .0 ∙ sym (b .1 .0), a .1 .1 ∙ sym (b .1 .1)))

@@ -1,0 +1,121 @@
+-- Document 01's cases on the formula, on circuit A's bytes, as one statement over one table: a row is the target and
+-- the lengths of the two lent slices, and the answer and the whole content of both slices that `build` is to leave.
+use mathlib.Core.Path.{_≡_, refl}
+use mathlib.Core.Bool.{Bool, true, false}
+use mathlib.Core.List.{List, [], _∷_, _++_, map}
+use Prim.Native.Nat.{ℕ}
+use lib.IntN.{ℤ, pos, negsuc}
+use lib.ListN.{replicate}
+use Rattle.refusal.specs.declared.Refusal.the-variants.{Pairs, Room}
+use Rattle.netlist.specs.Kinds.{fewest, most, kindOf}
+use Rattle.netlist.specs.File.{tableBytes, shapeOf, gateAt, pinAt, cellOf, cellAt, netlistAt}
+use Rattle.netlist.specs.Open.{
+  openOf,
+  firstWrong,
+  countWrong,
+  backWrong,
+  pinsBefore,
+  gateWrong,
+  gatePlace,
+  sumWrong,
+  pinsAt,
+  pinWrong,
+  pinPlace,
+  outputWrong,
+  outputPlace,
+}
+use Rattle.netlist.specs.Example.{circuitA}
+use Rattle.settle.specs.Settling.{grow, topsOf}
+use Rattle.clauses.specs.Clauses.{flat}
+use Rattle.pairs.specs.Pairs.{asked, timesAt, pairList, flatPairs, pairsFor, placeOf}
+use Rattle.formula.specs.declared.Built.the-variants.{Formula, Refused}
+use Rattle.formula.specs.declared.Counts.{Counts}
+use Rattle.formula.specs.Formula.{clauseOf, gateClauses, late, pairClauses, formula, pairVariable, formulaFor}
+use Rattle.formula.specs.Promise.{Building, numbersFor, countsFor, built, buildingOf, building}
+use Rattle.formula.specs.Example.{printed}
+
+-- a row
+pub record Case : Type 0 where
+  pub target : ℕ
+  pub pairsRoom : ℕ
+  pub formulaRoom : ℕ
+  pub leaves : Building
+
+-- the clauses of the three gates, which every target has first
+unfoldable pub gateLines : List ℤ
+gateLines =
+    pos 1 ∷ negsuc 2 ∷ pos 0 ∷ negsuc 0 ∷ pos 3 ∷ pos 0
+    ∷ pos 3 ∷ negsuc 3 ∷ pos 0 ∷ pos 2 ∷ negsuc 3 ∷ pos 0 ∷ negsuc 2 ∷ negsuc 1 ∷ pos 4 ∷ pos 0
+    ∷ negsuc 3 ∷ pos 5 ∷ pos 0 ∷ negsuc 1 ∷ pos 5 ∷ pos 0 ∷ pos 4 ∷ pos 2 ∷ negsuc 4 ∷ pos 0 ∷ []
+
+-- "A at T=3 has 48 numbers", those of the page, and three pairs; with one number more and two, they are zeroed;
+-- "At T=6: p cnf 5 9, last line 0": V is 5, and the last of 9 clauses is empty;
+-- with room for 47 numbers: ROOM 48; with room for 5 numbers of pairs: PAIRS 0; both slices zeroed
+unfoldable pub cases : List Case
+cases =
+    record {
+      target = 3;
+      pairsRoom = 6;
+      formulaRoom = 48;
+      leaves =
+          record {
+            answer = Formula (record { variables = 8; pairs = 3; clauses = 15; numbers = 48 });
+            pairs = 2 ∷ 1 ∷ 3 ∷ 2 ∷ 4 ∷ 3 ∷ [];
+            formula = printed;
+          };
+    }
+    ∷ record {
+      target = 3;
+      pairsRoom = 7;
+      formulaRoom = 50;
+      leaves =
+          record {
+            answer = Formula (record { variables = 8; pairs = 3; clauses = 15; numbers = 48 });
+            pairs = 2 ∷ 1 ∷ 3 ∷ 2 ∷ 4 ∷ 3 ∷ 0 ∷ [];
+            formula = printed ++ (pos 0 ∷ pos 0 ∷ []);
+          };
+    }
+    ∷ record {
+      target = 6;
+      pairsRoom = 0;
+      formulaRoom = 27;
+      leaves =
+          record {
+            answer = Formula (record { variables = 5; pairs = 0; clauses = 9; numbers = 27 });
+            pairs = [];
+            formula = gateLines ++ (pos 0 ∷ []);
+          };
+    }
+    ∷ record {
+      target = 3;
+      pairsRoom = 6;
+      formulaRoom = 47;
+      leaves =
+          record {
+            answer = Refused (Room 48);
+            pairs = replicate 6 0;
+            formula = replicate 47 (pos 0);
+          };
+    }
+    ∷ record {
+      target = 3;
+      pairsRoom = 5;
+      formulaRoom = 48;
+      leaves =
+          record {
+            answer = Refused Pairs;
+            pairs = replicate 5 0;
+            formula = replicate 48 (pos 0);
+          };
+    }
+    ∷ []
+
+-- the promise of `build` says so in each row
+pub hold : map (λ (c : Case). building circuitA (c .target) (c .pairsRoom) (c .formulaRoom)) cases
+    ≡ map (λ (c : Case). c .leaves) cases
+unfolding
+    circuitA openOf firstWrong countWrong backWrong pinsBefore gateWrong gatePlace sumWrong pinsAt pinWrong pinPlace
+    outputWrong outputPlace fewest most kindOf tableBytes shapeOf gateAt pinAt cellOf cellAt netlistAt grow topsOf flat
+    asked timesAt pairList flatPairs pairsFor placeOf clauseOf gateClauses late pairClauses formula pairVariable
+    formulaFor numbersFor countsFor built buildingOf building printed gateLines cases
+hold = refl

@@ -1,0 +1,31 @@
+-- The definitions run on circuit A: its pairs and numbers at T=3, as document 01 prints them, and its counts at T=6.
+use mathlib.Core.Path.{_≡_, refl}
+use mathlib.Core.Bool.{Bool, true, false}
+use mathlib.Core.List.{List, [], _∷_}
+use Prim.Native.Nat.{ℕ}
+use lib.IntN.{ℤ, pos, negsuc}
+use Rattle.netlist.specs.Example.{describedA}
+use Rattle.settle.specs.Settling.{grow, topsOf, atZero}
+use Rattle.clauses.specs.Clauses.{flat}
+use Rattle.formula.specs.declared.Counts.{Counts}
+use Rattle.pairs.specs.Pairs.{asked, timesAt, pairList, placeOf, pairsFor}
+use Rattle.formula.specs.Formula.{clauseOf, gateClauses, late, pairClauses, formula, pairVariable, formulaFor}
+use Rattle.formula.specs.Promise.{numbersFor, countsFor}
+
+-- the clause lines of the page at T=3
+unfoldable pub printed : List ℤ
+printed =
+    pos 1 ∷ negsuc 2 ∷ pos 0 ∷ negsuc 0 ∷ pos 3 ∷ pos 0
+    ∷ pos 3 ∷ negsuc 3 ∷ pos 0 ∷ pos 2 ∷ negsuc 3 ∷ pos 0 ∷ negsuc 2 ∷ negsuc 1 ∷ pos 4 ∷ pos 0
+    ∷ negsuc 3 ∷ pos 5 ∷ pos 0 ∷ negsuc 1 ∷ pos 5 ∷ pos 0 ∷ pos 4 ∷ pos 2 ∷ negsuc 4 ∷ pos 0
+    ∷ negsuc 6 ∷ pos 6 ∷ pos 0 ∷ negsuc 6 ∷ pos 6 ∷ pos 3 ∷ pos 0 ∷ negsuc 6 ∷ pos 2 ∷ pos 0
+    ∷ negsuc 7 ∷ pos 7 ∷ pos 0 ∷ negsuc 7 ∷ pos 7 ∷ negsuc 3 ∷ pos 0 ∷ negsuc 7 ∷ negsuc 1 ∷ pos 0 ∷ pos 8 ∷ pos 0 ∷ []
+
+pub runs :
+    (pairsFor describedA (atZero describedA) 3 ≡ (2, 1) ∷ (3, 2) ∷ (4, 3) ∷ [])
+    × (numbersFor describedA 3 ≡ printed)
+    × (countsFor describedA 6 ≡ record { variables = 5; pairs = 0; clauses = 9; numbers = 27 })
+unfolding
+    describedA grow topsOf flat asked timesAt pairList clauseOf gateClauses late pairClauses formula placeOf pairsFor
+    pairVariable formulaFor numbersFor countsFor printed
+runs = (refl, refl, refl)

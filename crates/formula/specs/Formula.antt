@@ -1,0 +1,116 @@
+-- The clauses for a target, in document 01's order, over any kind of variables: `node` gives a node's variable and
+-- `pair` a pair's. Then their numbers. Interface: all of it.
+use mathlib.Core.Bool.{Bool, true, false, not, cond}
+use mathlib.Core.List.{List, [], _∷_, _++_, map}
+use Prim.Native.Nat.{ℕ, zero, suc, _+_, _-_}
+use lib.Dec.{leb, ltb}
+use Rattle.basics.specs.Lists.{any, concatMap}
+use Rattle.netlist.specs.declared.Kind.{Kind}
+use Rattle.netlist.specs.declared.Kind.the-variants.{Simple, Parity, Mux}
+use Rattle.netlist.specs.Netlist.{Netlist, Cell, Pin, nodes, nodeCount}
+use Rattle.settle.specs.Settling.{topOf}
+use Rattle.clauses.specs.Clauses.{Literal}
+use Rattle.pairs.specs.Pairs.{timesAt, pairsFor, placeOf}
+
+-- a part of a clause: true outright, false outright, or a literal (the value that it wants, and its variable)
+pub data Part (X : Type 0) : Type 0 where
+  sure never : Part X
+  literal : Bool → X → Part X
+
+abbrev pub isSure : {X : Type 0} → Part X → Bool
+isSure sure = true
+isSure never = false
+isSure (literal b x) = false
+
+abbrev pub literals : {X : Type 0} → List (Part X) → List (Bool × X)
+literals [] = []
+literals (sure ∷ ps) = literals ps
+literals (never ∷ ps) = literals ps
+literals (literal b x ∷ ps) = (b, x) ∷ literals ps
+
+-- "A clause with a true part is left out; a false part is left out of its clause. Repeated literals stay."
+unfoldable pub clauseOf : {X : Type 0} → List (Part X) → List (List (Bool × X))
+clauseOf parts = cond (any isSure parts) [] (literals parts ∷ [])
+
+-- ---- 1. each gate
+
+module _ {X : Type 0} (node : ℕ → X) where
+  -- "node n is b"
+  abbrev pub is : ℕ → Bool → Bool × X
+  is n b = (b, node n)
+
+  -- "Simple: for each pin, driver is not c, gate is k; then driver is c for every pin and gate is not k."
+  -- "XOR and XNOR: for pin values 00, 01, 10, 11, first differs, second differs, gate is the result."
+  -- "MUX with s, a, b, f: (s, -a, f), (s, a, -f), (-s, -b, f), (-s, b, -f)."
+  -- Other numbers of pins do not occur.
+  unfoldable pub gateClauses : Kind → List Pin → ℕ → List (List (Bool × X))
+  gateClauses (Simple c k) ps f =
+      map (λ p. is (p .driver) (not c) ∷ is f k ∷ []) ps
+      ++ ((map (λ p. is (p .driver) c) ps ++ (is f (not k) ∷ [])) ∷ [])
+  gateClauses (Parity equal) (p ∷ q ∷ []) f =
+      (is (p .driver) true ∷ is (q .driver) true ∷ is f equal ∷ [])
+      ∷ (is (p .driver) true ∷ is (q .driver) false ∷ is f (not equal) ∷ [])
+      ∷ (is (p .driver) false ∷ is (q .driver) true ∷ is f (not equal) ∷ [])
+      ∷ (is (p .driver) false ∷ is (q .driver) false ∷ is f equal ∷ []) ∷ []
+  gateClauses (Parity equal) [] f = []
+  gateClauses (Parity equal) (p ∷ []) f = []
+  gateClauses (Parity equal) (p ∷ q ∷ r ∷ ps) f = []
+  gateClauses Mux (s ∷ a ∷ b ∷ []) f =
+      (is (s .driver) true ∷ is (a .driver) false ∷ is f true ∷ [])
+      ∷ (is (s .driver) true ∷ is (a .driver) true ∷ is f false ∷ [])
+      ∷ (is (s .driver) false ∷ is (b .driver) false ∷ is f true ∷ [])
+      ∷ (is (s .driver) false ∷ is (b .driver) true ∷ is f false ∷ []) ∷ []
+  gateClauses Mux [] f = []
+  gateClauses Mux (s ∷ []) f = []
+  gateClauses Mux (s ∷ a ∷ []) f = []
+  gateClauses Mux (s ∷ a ∷ b ∷ c ∷ ps) f = []
+
+-- ---- 2. each pair, and 3. some output is late
+
+module _ {X : Type 0} (I : ℕ) (top : ℕ → ℕ) (node : ℕ → X) (pair : ℕ → ℕ → X) where
+  -- "Node late at t": "true if t is 0 or less, false if t exceeds the node's top, otherwise it is a pair (node, t)
+  -- with a variable". An input is late up to its top, which is its arrival, and not beyond: it has no pair
+  unfoldable pub late : ℕ → ℕ → Part X
+  late n t =
+      cond (ltb n I) (cond (leb t (top n)) sure never)
+      (cond (leb t 0) sure (cond (leb t (top n)) (literal true (pair n t)) never))
+
+  -- "driver late at t less its delay"; below 0 it is 0, which is true as well
+  abbrev pub driverLate : ℕ → Pin → Part X
+  driverLate t p = late (p .driver) (t - p .delay)
+
+  -- "For a simple gate then, for each pin: -p, driver late, driver is not c."
+  abbrev pub controlClauses : ℕ → Kind → List Pin → ℕ → List (List (Bool × X))
+  controlClauses f (Simple c k) ps t =
+      concatMap
+      (λ p. clauseOf (literal false (pair f t) ∷ driverLate t p ∷ literal (not c) (node (p .driver)) ∷ [])) ps
+  controlClauses f (Parity equal) ps t = []
+  controlClauses f Mux ps t = []
+
+  -- "-p, or some driver late at t less its delay, drivers in pin order"
+  unfoldable pub pairClauses : ℕ → Kind → List Pin → ℕ → List (List (Bool × X))
+  pairClauses f k ps t =
+      clauseOf (literal false (pair f t) ∷ map (driverLate t) ps) ++ controlClauses f k ps t
+
+  -- 1, 2 and 3 in order; `times` gives the times of a node's pairs, rising
+  unfoldable pub formula : List (ℕ × Cell) → (ℕ → List ℕ) → List ℕ → ℕ → List (List (Bool × X))
+  formula gates times outputs target =
+      concatMap (λ x. gateClauses node (x .1 .kind) (x .1 .pins) (x .0)) gates
+      ++ (concatMap (λ x. concatMap (pairClauses (x .0) (x .1 .kind) (x .1 .pins)) (times (x .0))) gates
+      ++ clauseOf (map (λ o. late o target) outputs))
+
+-- ---- the variables' numbers
+
+-- "A node's variable is its number plus 1."
+abbrev pub nodeVariable : ℕ → ℕ
+nodeVariable n = suc n
+
+-- "Pairs take N+1, N+2 and on, by node rising, then t rising."
+unfoldable pub pairVariable : Netlist → List ℕ → ℕ → ℕ → ℕ → ℕ
+pairVariable net arrivals target f t = suc (nodeCount net + placeOf f t (pairsFor net arrivals target))
+
+-- the formula for a target
+unfoldable pub formulaFor : Netlist → List ℕ → ℕ → List (List Literal)
+formulaFor net arrivals target =
+    formula (net .inputs) (topOf net arrivals) nodeVariable (pairVariable net arrivals target) (nodes net)
+    (timesAt (net .inputs) (topOf net arrivals) (net .outputs) target (net .gates)) (net .outputs) target
