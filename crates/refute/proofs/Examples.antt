@@ -1,0 +1,128 @@
+-- Every check has an answer, and it is computed; so the worked examples are one computation over their rows, read as
+-- the order-free promise. Assumes nothing.
+use mathlib.Core.Path.{_≡_, refl, sym, subst}
+use mathlib.Core.Bool.{Bool, _&&_}
+use mathlib.Core.List.{
+  List,
+  [],
+  _∷_,
+  map,
+  List·Memᴰ,
+  List·Memᴰ·head,
+  List·Memᴰ·tail,
+  List·Memᴰ·not-nil,
+  head-eq-of-cons-eq,
+  tail-eq-of-cons-eq,
+}
+use Prim.Native.Nat.{ℕ, suc}
+use lib.Dec.{T, ltb, ltb→lt}
+use lib.IntN.{ℤ}
+use Rattle.basics.specs.Lists.{all}
+use Rattle.basics.proofs.Truth.{and-left, and-right}
+use Rattle.basics.proofs.Lists.{all-at, map-each}
+use Rattle.clauses.specs.Clauses.{Literal, clausesFrom, clausesOf}
+use Rattle.refute.specs.Propagation.{Follows}
+use Rattle.refute.specs.Examples.{Case, cases, Following, followings}
+use Rattle.refute.specs.Passes.{isTrue, isFree, assign, say, pass, refutes, assert, follows, verdict}
+use Rattle.refute.specs.Promise.{malformed, Checks}
+use Rattle.refute.specs.Reading.{answerOf}
+use Rattle.refute.specs.Rows.{
+  firstBeyond,
+  ended,
+  andThen,
+  formulaRows,
+  refutationRow,
+  firstEmpty,
+  lastRow,
+  roomRow,
+  refutationRows,
+  rowsOf,
+}
+use Rattle.refute.specs.declared.Checked.{Checked}
+use Rattle.refute.specs.declared.Checked.the-variants.{Passes, Refused}
+use Rattle.refute.proofs.Agree.{Small, follows-is}
+use Rattle.refute.proofs.Judging.{
+  then-first,
+  then-rest,
+  formula-passes,
+  formula-within,
+  rows-pass,
+  judged-answer,
+}
+
+-- the answer to a check
+abbrev pub answerTo : ℕ → List ℤ → List ℤ → ℕ → Checked
+answerTo variables formula refutation room =
+    andThen (rowsOf variables formula refutation room)
+    (answerOf (verdict (suc variables) (clausesOf formula) (clausesOf refutation)))
+
+-- it meets the promise, whatever is checked
+pub answer-exists : (variables : ℕ) (formula refutation : List ℤ) (room : ℕ) →
+    Checks variables formula refutation room (answerTo variables formula refutation room)
+answer-exists variables formula refutation room = go (rowsOf variables formula refutation room) refl
+  where
+    go : (rows : Checked) → rowsOf variables formula refutation room ≡ rows →
+        Checks variables formula refutation room
+        (andThen rows (answerOf (verdict (suc variables) (clausesOf formula) (clausesOf refutation))))
+    go (Refused refusal) e = malformed e
+    go Passes e =
+        judged-answer (suc variables) formula refutation e
+        (formula-within
+        (formula-passes variables formula
+        (then-first (formulaRows variables formula) (refutationRows variables refutation room) e)))
+        (rows-pass variables refutation room
+        (then-rest (formulaRows variables formula) (refutationRows variables refutation room) e) .within)
+        refl
+
+-- ---- the rows
+
+abbrev Meets : Case → Type 0
+Meets c = Checks (c .variables) (c .formula) (c .refutation) (c .room) (c .answer)
+
+computed : map (λ (c : Case). answerTo (c .variables) (c .formula) (c .refutation) (c .room)) cases
+    ≡ map (λ (c : Case). c .answer) cases
+unfolding cases clausesFrom firstBeyond ended formulaRows refutationRow firstEmpty lastRow roomRow isTrue isFree
+    assign say pass refutes assert follows verdict
+computed = refl
+
+-- each row's check has the row's answer, as the promise means it
+pub cases-hold : (c : Case) → List·Memᴰ c cases → Meets c
+cases-hold c i =
+    subst (Checks (c .variables) (c .formula) (c .refutation) (c .room))
+    (map-each (λ (d : Case). answerTo (d .variables) (d .formula) (d .refutation) (d .room)) (λ (d : Case). d .answer)
+    cases computed c i)
+    (answer-exists (c .variables) (c .formula) (c .refutation) (c .room))
+
+-- ---- clauses that follow
+
+abbrev fits : ℕ → List (List Literal) → Bool
+fits room cs = all (all (λ (l : Literal). ltb (l .1) room)) cs
+
+fits-small : (room : ℕ) (cs : List (List Literal)) → T (fits room cs) → Small room cs
+fits-small room cs t c i l j =
+    ltb→lt (l .1) room
+    (all-at (λ (l : Literal). ltb (l .1) room) c (all-at (all (λ (l : Literal). ltb (l .1) room)) cs t c i) l j)
+
+abbrev follows-all : Following → Bool
+follows-all f =
+    fits (f .room) (clausesOf (f .formula)) && fits (f .room) (clausesOf (f .clause))
+    && all (follows (f .room) (clausesOf (f .formula))) (clausesOf (f .clause))
+
+computed-follows : T (all follows-all followings)
+unfolding followings clausesFrom isTrue isFree assign say pass refutes assert follows
+computed-follows = tt
+
+-- each row's clause follows, in whatever order clauses are visited
+pub followings-hold : (f : Following) → List·Memᴰ f followings → (c : List Literal) →
+    List·Memᴰ c (clausesOf (f .clause)) → Follows (clausesOf (f .formula)) c
+followings-hold f i c j =
+    let t = all-at follows-all followings computed-follows f i in
+    let a = fits (f .room) (clausesOf (f .formula)) in
+    let b = fits (f .room) (clausesOf (f .clause)) in
+    let d = all (follows (f .room) (clausesOf (f .formula))) (clausesOf (f .clause)) in
+    let ab = and-left (a && b) d t in
+    follows-is (f .room) (clausesOf (f .formula)) c
+    (fits-small (f .room) (clausesOf (f .formula)) (and-left a b ab))
+    (λ l k. fits-small (f .room) (clausesOf (f .clause)) (and-right a b ab) c j l k)
+    .0
+    (all-at (follows (f .room) (clausesOf (f .formula))) (clausesOf (f .clause)) (and-right (a && b) d t) c j)

@@ -1,0 +1,11 @@
+-- The laws, one file a step.
+pub mod Sound
+pub mod Unique
+pub mod Marks
+pub mod Agree
+pub mod Reading
+pub mod Passing
+pub mod Walking
+pub mod Judging
+pub mod Cutting
+pub mod Examples

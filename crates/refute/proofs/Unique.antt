@@ -1,0 +1,63 @@
+-- One verdict on each refutation and one answer to each check: two that meet the promise are equal. Neither asks that a
+-- verdict can be computed. Assumes nothing.
+use mathlib.Core.Path.{_≡_, refl, sym, ap, _∙_}
+use mathlib.Core.List.{List, [], _∷_, _++_}
+use Prim.Native.Nat.{ℕ, zero, suc}
+use native.Mathlib.Omega.{arith}
+use lib.IntN.{ℤ}
+use Rattle.clauses.specs.Clauses.{Literal}
+use Rattle.refute.specs.Propagation.{Verdict, passes, stops, Judged}
+use Rattle.refute.specs.Passes.{next}
+use Rattle.refute.specs.Reading.{answerOf}
+use Rattle.refute.specs.Promise.{Answers, malformed, accepted, step, Checks, Tested}
+use Rattle.refute.specs.declared.Checked.{Checked}
+use Rattle.refute.specs.declared.Checked.the-variants.{Passes, Refused}
+
+-- one verdict
+pub judged-unique : (refutation stored : List (List Literal)) (v w : Verdict) → Judged stored refutation v →
+    Judged stored refutation w → v ≡ w
+unfolding Judged
+judged-unique [] stored passes passes h k = refl
+judged-unique [] stored passes (stops j) h k = absurd k
+judged-unique [] stored (stops i) w h k = absurd h
+judged-unique (c ∷ cs) stored passes passes h k = refl
+judged-unique (c ∷ cs) stored passes (stops zero) h k = absurd (k (h .0))
+judged-unique (c ∷ cs) stored passes (stops (suc j)) h k =
+    ap next (judged-unique cs (stored ++ (c ∷ [])) passes (stops j) (h .1) (k .1))
+judged-unique (c ∷ cs) stored (stops zero) passes h k = absurd (h (k .0))
+judged-unique (c ∷ cs) stored (stops zero) (stops zero) h k = refl
+judged-unique (c ∷ cs) stored (stops zero) (stops (suc j)) h k = absurd (h (k .0))
+judged-unique (c ∷ cs) stored (stops (suc i)) passes h k =
+    ap next (judged-unique cs (stored ++ (c ∷ [])) (stops i) passes (h .1) (k .1))
+judged-unique (c ∷ cs) stored (stops (suc i)) (stops zero) h k = absurd (k (h .0))
+judged-unique (c ∷ cs) stored (stops (suc i)) (stops (suc j)) h k =
+    ap next (judged-unique cs (stored ++ (c ∷ [])) (stops i) (stops j) (h .1) (k .1))
+
+apart : {A : Type 0} {rows : Checked} {r : _} → rows ≡ Refused r → rows ≡ Passes → A
+apart p q = let w : _≡_ {A = ℕ} 0 1 = cc in absurd (omega arith)
+
+-- one answer
+pub answers-unique : {rows : Checked} {stored refutation : List (List Literal)} {a b : Checked} →
+    Answers rows stored refutation a → Answers rows stored refutation b → a ≡ b
+answers-unique (malformed p) (malformed q) = sym p ∙ q
+answers-unique (malformed p) (accepted q k) = apart p q
+answers-unique (malformed p) (step q k) = apart p q
+answers-unique (accepted p h) (malformed q) = apart q p
+answers-unique (accepted p h) (accepted q k) = refl
+answers-unique {stored = stored} {refutation} (accepted p h) (step {i = i} q k) =
+    ap answerOf (judged-unique refutation stored passes (stops i) h k)
+answers-unique (step p h) (malformed q) = apart q p
+answers-unique {stored = stored} {refutation} (step {i = i} p h) (accepted q k) =
+    ap answerOf (judged-unique refutation stored (stops i) passes h k)
+answers-unique {stored = stored} {refutation} (step {i = i} p h) (step {i = j} q k) =
+    ap answerOf (judged-unique refutation stored (stops i) (stops j) h k)
+
+-- one answer to a separate check
+pub checks-unique : (variables : ℕ) (formula refutation : List ℤ) (room : ℕ) {a b : Checked} →
+    Checks variables formula refutation room a → Checks variables formula refutation room b → a ≡ b
+checks-unique variables formula refutation room p q = answers-unique p q
+
+-- one answer to the test that a certificate asks for
+pub tested-unique : (variables : ℕ) (formula refutation : List ℤ) (room : ℕ) {a b : Checked} →
+    Tested variables formula refutation room a → Tested variables formula refutation room b → a ≡ b
+tested-unique variables formula refutation room p q = answers-unique p q

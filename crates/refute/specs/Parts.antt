@@ -1,0 +1,57 @@
+-- The clauses of two lists by number, each with its 0 as a part of the list that holds it. Interface: parts, Part.
+use mathlib.Core.Path.{_≡_}
+use mathlib.Core.Bool.{true, false, cond}
+use mathlib.Core.List.{List, [], _∷_, _++_}
+use Prim.Native.Nat.{ℕ, zero, suc, _-_}
+use lib.Dec.{ltb}
+use lib.IntN.{ℤ, pos, negsuc}
+use lib.ListN.{length, getD, take, drop}
+use Rattle.basics.specs.Lists.{concatMap}
+use Rattle.refute.specs.declared.Span.{Span}
+use Rattle.refute.specs.declared.Found.{Found}
+use Rattle.refute.specs.declared.Found.the-variants.{At, Beyond}
+
+-- the parts of a list whose numbers `begun` were read before it
+unfoldable pub partsFrom : List ℤ → List ℤ → List (List ℤ)
+partsFrom begun [] = []
+partsFrom begun (pos zero ∷ zs) = (begun ++ (pos 0 ∷ [])) ∷ partsFrom [] zs
+partsFrom begun (pos (suc n) ∷ zs) = partsFrom (begun ++ (pos (suc n) ∷ [])) zs
+partsFrom begun (negsuc n ∷ zs) = partsFrom (begun ++ (negsuc n ∷ [])) zs
+
+-- a list cut behind each 0; "numbers after a list's last 0 are no clause"
+abbrev pub parts : List ℤ → List (List ℤ)
+parts zs = partsFrom [] zs
+
+-- where part number n starts, and part number n - 1 ends
+unfoldable pub startOf : List ℤ → ℕ → ℕ
+startOf zs n = length (concatMap (λ (p : List ℤ). p) (take n (parts zs)))
+
+-- part number n of one list: from where to where; or how many the number is beyond the parts
+unfoldable pub foundIn : List ℤ → ℕ → Found
+foundIn zs n =
+    cond (ltb n (length (parts zs))) (At (startOf zs n) (startOf zs (suc n))) (Beyond (n - length (parts zs)))
+
+-- a number that was not found in the formula is looked for in the refutation; "a number that names no clause gives the
+-- empty part at the refutation's end"
+abbrev pub spanSecond : Found → ℕ → Span
+spanSecond (At start end) length = record { second = true; start = start; end = end }
+spanSecond (Beyond n) length = record { second = true; start = length; end = length }
+
+abbrev pub spanFirst : Found → List ℤ → Span
+spanFirst (At start end) refutation = record { second = false; start = start; end = end }
+spanFirst (Beyond n) refutation = spanSecond (foundIn refutation n) (length refutation)
+
+-- "the clause with a given number (the formula's first, then the refutation's)": which list, from where, to where
+unfoldable pub spanOf : List ℤ → List ℤ → ℕ → Span
+spanOf formula refutation number = spanFirst (foundIn formula number) refutation
+
+-- what a span holds
+abbrev pub spanned : List ℤ → List ℤ → Span → List ℤ
+spanned formula refutation span =
+    cond (span .second) (take (span .end - span .start) (drop (span .start) refutation))
+    (take (span .end - span .start) (drop (span .start) formula))
+
+-- what is handed back for a number: the part that its span names, which is the numbered one of both lists' parts
+pub record Part (formula refutation : List ℤ) (number : ℕ) (part : List ℤ) : Type 0 where
+  pub held : part ≡ spanned formula refutation (spanOf formula refutation number)
+  pub named : part ≡ getD (parts formula ++ parts refutation) number []
