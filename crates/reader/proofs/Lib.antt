@@ -1,0 +1,4 @@
+-- The laws, one file a step.
+pub mod Lengths
+pub mod Agree
+pub mod Unique

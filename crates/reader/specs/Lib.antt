@@ -1,0 +1,2 @@
+-- Interface: all of Reading (what a reader must believe).
+pub mod Reading
