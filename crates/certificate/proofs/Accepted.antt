@@ -1,0 +1,64 @@
+-- What an accepted certificate says: a vector settles at d; were another to settle later, demand 3 would give a
+-- solution of the formula for d+1, and a refutation that passes and has the empty clause leaves none. Laws: accepted,
+-- numbers-accepted. Assumes nothing.
+use mathlib.Core.Path.{_≡_, sym, subst}
+use mathlib.Core.Bool.{Bool}
+use mathlib.Core.List.{List, [], List·Memᴰ}
+use mathlib.Core.Logic.{_⊎_, inl, inr}
+use Prim.Native.Nat.{ℕ, suc, _≤_}
+use native.Mathlib.Omega.{arith}
+use lib.Dec.{T, leb, not-T, nleb→lt}
+use lib.IntN.{ℤ}
+use lib.ListN.{length, length-replicate}
+use Rattle.basics.proofs.Truth.{decide}
+use Rattle.netlist.specs.Netlist.{Netlist, valid}
+use Rattle.settle.specs.Settling.{circuitTime, atZero}
+use Rattle.settle.proofs.Nodes.{circuit-late}
+use Rattle.clauses.specs.Clauses.{Literal, clausesOf}
+use Rattle.refute.specs.Propagation.{Judged, passes}
+use Rattle.refute.proofs.Sound.{no-solution}
+use Rattle.formula.specs.Formula.{formulaFor}
+use Rattle.formula.specs.Promise.{numbersFor}
+use Rattle.certificate.specs.Largest.{Largest}
+use Rattle.certificate.proofs.Demand.{demand3}
+use Rattle.certificate.proofs.Numbers.{numbers-read}
+
+module _ (net : Netlist) (ok : T (valid net)) (arrivals : List ℕ) (as-many : length arrivals ≡ net .inputs) where
+  -- a vector that settles at d, and a refutation of the formula for d+1 that passes
+  pub accepted : (delay : ℕ) (vector : List Bool) → length vector ≡ net .inputs →
+      circuitTime net arrivals vector ≡ delay → (refutation : List (List Literal)) →
+      Judged (formulaFor net arrivals (suc delay)) refutation passes → List·Memᴰ [] refutation →
+      Largest net arrivals delay
+  accepted delay vector as-long settles refutation judged empty =
+      record {
+        bound = λ other e. pick other e (decide (leb (suc delay) (circuitTime net arrivals other)));
+        reached = (vector, as-long, settles);
+      }
+    where
+      pick : (other : List Bool) → length other ≡ net .inputs →
+          T (leb (suc delay) (circuitTime net arrivals other))
+          ⊎ (T (leb (suc delay) (circuitTime net arrivals other)) → ⊥) → circuitTime net arrivals other ≤ delay
+      pick other e (inl late) =
+          let s =
+          demand3 net ok arrivals as-many other e (suc delay) .1
+          (subst T (circuit-late net arrivals other delay) late)
+          in
+          absurd
+          (no-solution (formulaFor net arrivals (suc delay)) refutation judged empty (s .assignment) (s .solves))
+      pick other e (inr late) =
+          let h =
+          nleb→lt (suc delay) (circuitTime net arrivals other)
+          (not-T (leb (suc delay) (circuitTime net arrivals other)) late)
+          in
+          omega arith
+
+-- the same over the very lists of numbers, with all arrivals zero
+pub numbers-accepted : (net : Netlist) → T (valid net) → (delay : ℕ) (vector : List Bool) →
+    length vector ≡ net .inputs → circuitTime net (atZero net) vector ≡ delay → (refutation : List ℤ) →
+    Judged (clausesOf (numbersFor net (suc delay))) (clausesOf refutation) passes →
+    List·Memᴰ [] (clausesOf refutation) → Largest net (atZero net) delay
+numbers-accepted net ok delay vector as-long settles refutation judged empty =
+    accepted net ok (atZero net) (length-replicate (net .inputs) 0) delay vector as-long settles (clausesOf refutation)
+    (subst (λ (formula : List (List Literal)). Judged formula (clausesOf refutation) passes)
+    (numbers-read net ok (suc delay)) judged)
+    empty

@@ -1,0 +1,362 @@
+-- What the clauses say under an assignment, over any kind of variables: a clause of parts, that some part is true; a
+-- gate's clauses, that its variable is the gate's value; a pair's clauses, that where the pair is true some driver is
+-- late and each controlling cube has a late or a false literal; the formula, all of this and that some output is late.
+-- Each is an equation of Bools. Laws: clause-says, gate-says, pair-says, late-says, formula-says, late-with-mono.
+-- Assumes nothing.
+use mathlib.Core.Path.{_≡_, refl, sym, ap, ap₂, _∙_}
+use mathlib.Core.Bool.{Bool, true, false, not, _&&_, _||_, Bool·beq, cond}
+use mathlib.Core.List.{List, [], _∷_, _++_, map, List·Memᴰ}
+use mathlib.Core.Logic.{_⊎_, inl, inr}
+use Prim.Native.Nat.{ℕ, zero, _-_}
+use native.Mathlib.Omega.{arith}
+use lib.Dec.{T, leb, ltb}
+use lib.ListN.{length}
+use Rattle.basics.specs.Lists.{any, all, concatMap}
+use Rattle.basics.proofs.Truth.{
+  or-left,
+  or-right,
+  or-cases,
+  and-both,
+  and-left,
+  and-right,
+  by-table-of-one,
+  by-table-of-two,
+  by-table-of-three,
+  by-table-of-four,
+}
+use Rattle.basics.proofs.Lists.{
+  any-cong,
+  all-cong,
+  any-mono,
+  all-mono,
+  all-append,
+  all-concatMap,
+  any-concatMap,
+  any-map,
+}
+use Rattle.netlist.specs.declared.Kind.{Kind}
+use Rattle.netlist.specs.declared.Kind.the-variants.{Simple, Parity, Mux}
+use Rattle.netlist.specs.Netlist.{Cell, Pin, takes}
+use Rattle.netlist.proofs.Valid.{takes-parity, takes-mux}
+use Rattle.settle.specs.Settling.{gateValue}
+use Rattle.settle.specs.Cubes.{Cube, cubes}
+use Rattle.settle.proofs.Cubes.{cube-pin}
+use Rattle.formula.specs.Formula.{
+  Part,
+  sure,
+  never,
+  literal,
+  isSure,
+  literals,
+  clauseOf,
+  is,
+  gateClauses,
+  late,
+  driverLate,
+  controlClauses,
+  pairClauses,
+  formula,
+}
+
+-- ---- a clause of parts
+
+module _ {X : Type 0} (σ : X → Bool) where
+  -- a literal is true: its variable has the value that it wants
+  abbrev pub literalTrue : Bool × X → Bool
+  literalTrue l = Bool·beq (σ (l .1)) (l .0)
+
+  -- a part is true
+  abbrev pub partTrue : Part X → Bool
+  partTrue sure = true
+  partTrue never = false
+  partTrue (literal b x) = Bool·beq (σ x) b
+
+  -- each clause has a true literal: over numbered variables this is `satisfies`
+  abbrev pub solves : List (List (Bool × X)) → Bool
+  solves clauses = all (any literalTrue) clauses
+
+  parts-say : (parts : List (Part X)) →
+      any partTrue parts ≡ (any isSure parts || any literalTrue (literals parts))
+  parts-say [] = refl
+  parts-say (sure ∷ parts) = refl
+  parts-say (never ∷ parts) = parts-say parts
+  parts-say (literal b x ∷ parts) =
+      ap (λ r. Bool·beq (σ x) b || r) (parts-say parts)
+      ∙ by-table-of-three (λ a b c. a || (b || c)) (λ a b c. b || (a || c)) tt
+      (Bool·beq (σ x) b)
+      (any isSure parts)
+      (any literalTrue (literals parts))
+
+  -- a clause says that one of its parts is true
+  pub clause-says : (parts : List (Part X)) → solves (clauseOf parts) ≡ any partTrue parts
+  unfolding clauseOf
+  clause-says parts = go (any isSure parts) (any literalTrue (literals parts)) refl ∙ sym (parts-say parts)
+    where
+      go : (s l : Bool) → any literalTrue (literals parts) ≡ l →
+          solves (cond s [] (literals parts ∷ [])) ≡ (s || l)
+      go true l e = refl
+      go false true e = ap (λ b. b && true) e
+      go false false e = ap (λ b. b && true) e
+
+-- ---- a gate's clauses
+
+module _ {X : Type 0} (node : ℕ → X) (σ : X → Bool) where
+  -- the variable of a pin's driver
+  abbrev pub driverTrue : Pin → Bool
+  driverTrue p = σ (node (p .driver))
+
+  module _ (c k : Bool) (f : ℕ) where
+    abbrev at : Pin → Bool
+    at p = Bool·beq (driverTrue p) c
+
+    -- "for each pin, driver is not c, gate is k"
+    forcing-says : (ps : List Pin) →
+        solves σ (map (λ p. is node (p .driver) (not c) ∷ is node f k ∷ []) ps)
+        ≡ (not (any at ps) || Bool·beq (σ (node f)) k)
+    forcing-says [] = refl
+    forcing-says (p ∷ ps) =
+        ap (λ b. (Bool·beq (driverTrue p) (not c) || (Bool·beq (σ (node f)) k || false)) && b) (forcing-says ps)
+        ∙ by-table-of-four (λ x c r z. (Bool·beq x (not c) || (z || false)) && (not r || z))
+        (λ x c r z. not (Bool·beq x c || r) || z) tt
+        (driverTrue p)
+        c
+        (any at ps)
+        (Bool·beq (σ (node f)) k)
+
+    -- "driver is c for every pin and gate is not k"
+    otherwise-says : (ps : List Pin) →
+        any (literalTrue σ) (map (λ p. is node (p .driver) c) ps ++ (is node f (not k) ∷ []))
+        ≡ (any at ps || Bool·beq (σ (node f)) (not k))
+    otherwise-says [] = by-table-of-one (λ a. a || false) (λ a. a) tt (Bool·beq (σ (node f)) (not k))
+    otherwise-says (p ∷ ps) =
+        ap (λ b. at p || b) (otherwise-says ps)
+        ∙ by-table-of-three (λ a b c. a || (b || c)) (λ a b c. a || b || c) tt
+        (at p)
+        (any at ps)
+        (Bool·beq (σ (node f)) (not k))
+
+  -- a gate's clauses say that its variable is the gate's value of its drivers' variables
+  pub gate-says : (kind : Kind) (ps : List Pin) (f : ℕ) → T (takes kind (length ps)) →
+      solves σ (gateClauses node kind ps f) ≡ Bool·beq (σ (node f)) (gateValue driverTrue kind ps)
+  unfolding gateClauses gateValue
+  gate-says (Simple c k) ps f t =
+      all-append (any (literalTrue σ)) (map (λ p. is node (p .driver) (not c) ∷ is node f k ∷ []) ps)
+      ((map (λ p. is node (p .driver) c) ps ++ (is node f (not k) ∷ [])) ∷ [])
+      ∙ ap₂ (λ a b. a && (b && true)) (forcing-says c k f ps) (otherwise-says c k f ps)
+      ∙ by-table-of-three (λ a k z. (not a || Bool·beq z k) && ((a || Bool·beq z (not k)) && true))
+      (λ a k z. Bool·beq z (cond a k (not k))) tt
+      (any (at c k f) ps)
+      k
+      (σ (node f))
+  gate-says (Parity equal) (p ∷ q ∷ []) f t =
+      by-table-of-four
+      (λ x y z e.
+      (Bool·beq x true || (Bool·beq y true || (Bool·beq z e || false)))
+      && ((Bool·beq x true || (Bool·beq y false || (Bool·beq z (not e) || false)))
+      && ((Bool·beq x false || (Bool·beq y true || (Bool·beq z (not e) || false)))
+      && ((Bool·beq x false || (Bool·beq y false || (Bool·beq z e || false))) && true))))
+      (λ x y z e. Bool·beq z (cond x (not (cond y (not e) e)) (cond y (not e) e))) tt
+      (driverTrue p)
+      (driverTrue q)
+      (σ (node f))
+      equal
+  gate-says (Parity equal) [] f t = let e = takes-parity equal 0 t in absurd (omega arith)
+  gate-says (Parity equal) (p ∷ []) f t = let e = takes-parity equal 1 t in absurd (omega arith)
+  gate-says (Parity equal) (p ∷ q ∷ r ∷ ps) f t =
+      let e = takes-parity equal (length (p ∷ q ∷ r ∷ ps)) t in absurd (omega arith)
+  gate-says Mux (s ∷ a ∷ b ∷ []) f t =
+      by-table-of-four
+      (λ s a b z.
+      (Bool·beq s true || (Bool·beq a false || (Bool·beq z true || false)))
+      && ((Bool·beq s true || (Bool·beq a true || (Bool·beq z false || false)))
+      && ((Bool·beq s false || (Bool·beq b false || (Bool·beq z true || false)))
+      && ((Bool·beq s false || (Bool·beq b true || (Bool·beq z false || false))) && true))))
+      (λ s a b z. Bool·beq z (cond s b a)) tt
+      (driverTrue s)
+      (driverTrue a)
+      (driverTrue b)
+      (σ (node f))
+  gate-says Mux [] f t = let e = takes-mux 0 t in absurd (omega arith)
+  gate-says Mux (s ∷ []) f t = let e = takes-mux 1 t in absurd (omega arith)
+  gate-says Mux (s ∷ a ∷ []) f t = let e = takes-mux 2 t in absurd (omega arith)
+  gate-says Mux (s ∷ a ∷ b ∷ c ∷ ps) f t =
+      let e = takes-mux (length (s ∷ a ∷ b ∷ c ∷ ps)) t in absurd (omega arith)
+
+-- ---- some pin is late, and each controlling cube has a late or a false literal
+
+module _ {P : Type 0} where
+  -- for any test `slow` of a pin and any test `fails` of a pin against a value
+  abbrev pub lateWith : (P → Bool) → (P → Bool → Bool) → Kind → List P → Bool
+  lateWith slow fails kind ps =
+      any slow ps && all (λ cube. any (λ l. slow (l .0) || fails (l .0) (l .1)) cube) (cubes kind ps)
+
+  -- tests that pass more pins pass more gates: both directions of demand 3 are this law
+  pub late-with-mono : (slow slow′ : P → Bool) (fails fails′ : P → Bool → Bool) (kind : Kind) (ps : List P) →
+      ((p : P) → List·Memᴰ p ps → T (slow p) → T (slow′ p)) →
+      ((p : P) → List·Memᴰ p ps → (b : Bool) → T (fails p b) → T (fails′ p b)) →
+      T (lateWith slow fails kind ps) → T (lateWith slow′ fails′ kind ps)
+  late-with-mono slow slow′ fails fails′ kind ps h a t =
+      and-both (any slow′ ps) (all (λ cube. any (λ l. slow′ (l .0) || fails′ (l .0) (l .1)) cube) (cubes kind ps))
+      (any-mono slow slow′ ps h
+      (and-left (any slow ps) (all (λ cube. any (λ l. slow (l .0) || fails (l .0) (l .1)) cube) (cubes kind ps)) t))
+      (all-mono
+      (λ cube. any (λ l. slow (l .0) || fails (l .0) (l .1)) cube)
+      (λ cube. any (λ l. slow′ (l .0) || fails′ (l .0) (l .1)) cube)
+      (cubes kind ps)
+      (λ cube m.
+      any-mono (λ l. slow (l .0) || fails (l .0) (l .1)) (λ l. slow′ (l .0) || fails′ (l .0) (l .1)) cube
+      (λ l i u. one l (cube-pin kind ps cube m l i) (or-cases (slow (l .0)) (fails (l .0) (l .1)) u)))
+      (and-right (any slow ps) (all (λ cube. any (λ l. slow (l .0) || fails (l .0) (l .1)) cube) (cubes kind ps)) t))
+    where
+      one : (l : P × Bool) → List·Memᴰ (l .0) ps → T (slow (l .0)) ⊎ T (fails (l .0) (l .1)) →
+          T (slow′ (l .0) || fails′ (l .0) (l .1))
+      one l m (inl u) = or-left (slow′ (l .0)) (fails′ (l .0) (l .1)) (h (l .0) m u)
+      one l m (inr u) = or-right (slow′ (l .0)) (fails′ (l .0) (l .1)) (a (l .0) m (l .1) u)
+
+-- ---- a pair's clauses
+
+module _ {X : Type 0} (I : ℕ) (top : ℕ → ℕ) (node : ℕ → X) (pair : ℕ → ℕ → X) where
+  -- the parts of a cube's literal: driver late, or literal false
+  abbrev pub cubeParts : ℕ → Pin × Bool → List (Part X)
+  cubeParts t l = driverLate I top node pair t (l .0) ∷ literal (not (l .1)) (node (l .0 .driver)) ∷ []
+
+  -- the clause of a pair for one controlling cube: "-p, or for some literal of the cube: driver late, or literal false"
+  abbrev pub cubeClause : ℕ → ℕ → Cube Pin → List (List (Bool × X))
+  cubeClause f t cube = clauseOf (literal false (pair f t) ∷ concatMap (cubeParts t) cube)
+
+  one-pin-clauses : (f t : ℕ) (c : Bool) (ps : List Pin) →
+      concatMap
+      (λ p.
+      clauseOf
+      (literal false (pair f t) ∷ driverLate I top node pair t p ∷ literal (not c) (node (p .driver)) ∷ [])) ps
+      ≡ concatMap (cubeClause f t) (map (λ p. (p, c) ∷ []) ps)
+  one-pin-clauses f t c [] = refl
+  one-pin-clauses f t c (p ∷ ps) = ap (λ r. cubeClause f t ((p, c) ∷ []) ++ r) (one-pin-clauses f t c ps)
+
+  -- document 01's words for each kind are the clauses of its controlling cubes
+  pub control-clauses : (f : ℕ) (kind : Kind) (ps : List Pin) (t : ℕ) →
+      controlClauses I top node pair f kind ps t ≡ concatMap (cubeClause f t) (cubes kind ps)
+  control-clauses f (Simple c k) ps t = one-pin-clauses f t c ps
+  control-clauses f (Parity equal) ps t = refl
+  control-clauses f Mux ps t = refl
+
+  module _ (σ : X → Bool) where
+    -- what the assignment says of "node late at t"
+    abbrev pub lateTrue : ℕ → ℕ → Bool
+    lateTrue n t = partTrue σ (late I top node pair n t)
+
+    -- and of a driver
+    abbrev pub driverLateTrue : ℕ → Pin → Bool
+    driverLateTrue t p = partTrue σ (driverLate I top node pair t p)
+
+    -- "literal false"
+    abbrev pub driverFails : Pin → Bool → Bool
+    driverFails p b = Bool·beq (σ (node (p .driver))) (not b)
+
+    -- what the assignment says of a gate at t
+    abbrev pub told : ℕ → Kind → List Pin → Bool
+    told t kind ps = lateWith (driverLateTrue t) driverFails kind ps
+
+    -- a literal of a cube is late or false
+    abbrev slowOrFalse : ℕ → Pin × Bool → Bool
+    slowOrFalse t l = driverLateTrue t (l .0) || driverFails (l .0) (l .1)
+
+    cube-says : (t : ℕ) (cube : Cube Pin) → any (partTrue σ) (concatMap (cubeParts t) cube) ≡ any (slowOrFalse t) cube
+    cube-says t cube =
+        any-concatMap (partTrue σ) (cubeParts t) cube
+        ∙ any-cong (λ l. any (partTrue σ) (cubeParts t l)) (slowOrFalse t) cube
+        (λ l m.
+        by-table-of-two (λ a b. a || (b || false)) (λ a b. a || b) tt
+        (driverLateTrue t (l .0))
+        (driverFails (l .0) (l .1)))
+
+    cubes-say : (f t : ℕ) (some-cubes : List (Cube Pin)) →
+        all (λ cube. solves σ (cubeClause f t cube)) some-cubes
+        ≡ (not (σ (pair f t)) || all (any (slowOrFalse t)) some-cubes)
+    cubes-say f t [] = by-table-of-one (λ a. true) (λ a. not a || true) tt (σ (pair f t))
+    cubes-say f t (cube ∷ rest) =
+        ap₂ (λ a b. a && b)
+        (clause-says σ (literal false (pair f t) ∷ concatMap (cubeParts t) cube)
+        ∙ ap (λ b. Bool·beq (σ (pair f t)) false || b) (cube-says t cube))
+        (cubes-say f t rest)
+        ∙ by-table-of-three (λ p a b. (Bool·beq p false || a) && (not p || b)) (λ p a b. not p || a && b) tt
+        (σ (pair f t))
+        (any (slowOrFalse t) cube)
+        (all (any (slowOrFalse t)) rest)
+
+    -- a pair's clauses say: not the pair; or some driver is late, and each controlling cube has a late or a false
+    -- literal
+    pub pair-says : (f : ℕ) (kind : Kind) (ps : List Pin) (t : ℕ) →
+        solves σ (pairClauses I top node pair f kind ps t) ≡ (not (σ (pair f t)) || told t kind ps)
+    unfolding pairClauses
+    pair-says f kind ps t =
+        all-append (any (literalTrue σ))
+        (clauseOf (literal false (pair f t) ∷ map (driverLate I top node pair t) ps))
+        (controlClauses I top node pair f kind ps t)
+        ∙ ap₂ (λ a b. a && b)
+        (clause-says σ (literal false (pair f t) ∷ map (driverLate I top node pair t) ps)
+        ∙ ap (λ b. Bool·beq (σ (pair f t)) false || b) (any-map (partTrue σ) (driverLate I top node pair t) ps))
+        (ap (solves σ) (control-clauses f kind ps t)
+        ∙ all-concatMap (any (literalTrue σ)) (cubeClause f t) (cubes kind ps)
+        ∙ cubes-say f t (cubes kind ps))
+        ∙ by-table-of-three (λ p a b. (Bool·beq p false || a) && (not p || b)) (λ p a b. not p || a && b) tt
+        (σ (pair f t))
+        (any (driverLateTrue t) ps)
+        (all (any (slowOrFalse t)) (cubes kind ps))
+
+    -- what "node late at t" says: for an input its top, for a gate t = 0 or the pair's variable
+    pub late-says : (n t : ℕ) →
+        lateTrue n t ≡ cond (ltb n I) (leb t (top n)) (leb t zero || leb t (top n) && σ (pair n t))
+    unfolding late
+    late-says n t = go (ltb n I) (leb t (top n)) (leb t zero)
+      where
+        go : (input within none : Bool) →
+            partTrue σ
+            (cond input (cond within sure never)
+            (cond none sure (cond within (literal true (pair n t)) never)))
+            ≡ cond input within (none || within && σ (pair n t))
+        go true true none = refl
+        go true false none = refl
+        go false within true = refl
+        go false true false = by-table-of-one (λ a. Bool·beq a true) (λ a. a) tt (σ (pair n t))
+        go false false false = refl
+
+    -- ---- the formula
+
+    -- each gate's clauses are solved
+    abbrev pub gatesSolved : List (ℕ × Cell) → Bool
+    gatesSolved gates = all (λ x. solves σ (gateClauses node (x .1 .kind) (x .1 .pins) (x .0))) gates
+
+    -- each pair's clauses are solved
+    abbrev pub pairsSolved : List (ℕ × Cell) → (ℕ → List ℕ) → Bool
+    pairsSolved gates times =
+        all
+        (λ x. all (λ t. solves σ (pairClauses I top node pair (x .0) (x .1 .kind) (x .1 .pins) t)) (times (x .0)))
+        gates
+
+    -- the formula says: each gate's clauses, each pair's, and some output is late
+    pub formula-says : (gates : List (ℕ × Cell)) (times : ℕ → List ℕ) (outputs : List ℕ) (target : ℕ) →
+        solves σ (formula I top node pair gates times outputs target)
+        ≡ (gatesSolved gates && (pairsSolved gates times && any (λ o. lateTrue o target) outputs))
+    unfolding formula
+    formula-says gates times outputs target =
+        all-append (any (literalTrue σ)) (concatMap ofGate gates)
+        (concatMap ofPairs gates ++ clauseOf (map (λ o. late I top node pair o target) outputs))
+        ∙ ap₂ (λ a b. a && b) (all-concatMap (any (literalTrue σ)) ofGate gates)
+        (all-append (any (literalTrue σ)) (concatMap ofPairs gates)
+        (clauseOf (map (λ o. late I top node pair o target) outputs))
+        ∙ ap₂ (λ a b. a && b)
+        (all-concatMap (any (literalTrue σ)) ofPairs gates
+        ∙ all-cong (λ x. solves σ (ofPairs x)) (λ x. all (λ t. solves σ (ofPair x t)) (times (x .0))) gates
+        (λ x m. all-concatMap (any (literalTrue σ)) (ofPair x) (times (x .0))))
+        (clause-says σ (map (λ o. late I top node pair o target) outputs)
+        ∙ any-map (partTrue σ) (λ o. late I top node pair o target) outputs))
+      where
+        ofGate : ℕ × Cell → List (List (Bool × X))
+        ofGate x = gateClauses node (x .1 .kind) (x .1 .pins) (x .0)
+
+        ofPair : ℕ × Cell → ℕ → List (List (Bool × X))
+        ofPair x t = pairClauses I top node pair (x .0) (x .1 .kind) (x .1 .pins) t
+
+        ofPairs : ℕ × Cell → List (List (Bool × X))
+        ofPairs x = concatMap (ofPair x) (times (x .0))

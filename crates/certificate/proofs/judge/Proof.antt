@@ -1,0 +1,96 @@
+-- `certificate::judge` meets its contract: a refused file is the judgement's refusal, an accepted one is judged by its
+-- own netlist; and the promise implies that an accepted delay is the largest settling time. Assumes nothing.
+use mathlib.Core.Path.{sym, _∙_}
+use borrow.Author.Needs.{needs}
+use Rattle.netlist.proofs.Accepted.{holds}
+use Rattle.certificate.proofs.Granted.{judges-largest}
+use Rattle.certificate.proofs.Steps.{judges-refused, judges-opened}
+use Rattle.certificate.proofs.judge.Statement.{statement}
+use Rattle.certificate.proofs.judge.Tie as tie
+
+open-requires : tie.Need-open-requires
+open-requires c κs = search needs
+
+enum-known-opened : tie.Need-enum-known-opened
+enum-known-opened c = search needs
+
+refuse-requires : tie.Need-refuse-requires
+refuse-requires c κs = search needs
+
+enum-known-opened-2 : tie.Need-enum-known-opened-2
+enum-known-opened-2 c = search needs
+
+judge-accepted-requires : tie.Need-judge-accepted-requires
+judge-accepted-requires c κs =
+    let told = c .before .before .before .before .before .before in
+    holds _ _ (sym (told .before .before .«open» .ensures) ∙ told .opened2 .given .1)
+
+same-length : tie.Need-same-length
+same-length c = search needs
+
+same-length-2 : tie.Need-same-length-2
+same-length-2 c = search needs
+
+same-length-3 : tie.Need-same-length-3
+same-length-3 c = search needs
+
+same-length-4 : tie.Need-same-length-4
+same-length-4 c = search needs
+
+same-length-5 : tie.Need-same-length-5
+same-length-5 c = search needs
+
+returns : tie.Need-returns
+returns c =
+    let refusing = c .before .before .before .before .before .before .before .before .before in
+    let told = refusing .before .before .before .before .before .before .before in
+    let j =
+    judges-refused (told .before .before .«open» .ensures) (told .opened .given .1) (refusing .refuse .ensures)
+    in
+    (j, judges-largest j)
+
+same-length-6 : tie.Need-same-length-6
+same-length-6 c = search needs
+
+same-length-7 : tie.Need-same-length-7
+same-length-7 c = search needs
+
+same-length-8 : tie.Need-same-length-8
+same-length-8 c = search needs
+
+same-length-9 : tie.Need-same-length-9
+same-length-9 c = search needs
+
+same-length-10 : tie.Need-same-length-10
+same-length-10 c = search needs
+
+returns-2 : tie.Need-returns-2
+returns-2 c =
+    let call = c .before .before .before .before .before .before .before .before .before in
+    let told = call .before .before .before .before .before .before .before in
+    let j =
+    judges-opened (told .before .before .«open» .ensures) (told .opened2 .given .1) (call .judge-accepted .ensures)
+    in
+    (j, judges-largest j)
+
+pub judge-spec : {M : Type 1} → statement M
+judge-spec =
+    tie.close
+    (tie.spec
+    open-requires
+    enum-known-opened
+    refuse-requires
+    enum-known-opened-2
+    judge-accepted-requires
+    same-length
+    same-length-2
+    same-length-3
+    same-length-4
+    same-length-5
+    returns
+    same-length-6
+    same-length-7
+    same-length-8
+    same-length-9
+    same-length-10
+    returns-2)

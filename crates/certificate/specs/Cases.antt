@@ -1,0 +1,60 @@
+-- Document 01's cases on certificates as one table: circuit A, an output that is an input, and the rooms just below
+-- what is needed. proofs/Examples has that each row's call has the row's answer. Interface: Case, cases.
+use mathlib.Core.List.{List, [], _∷_}
+use Prim.Native.Nat.{ℕ}
+use lib.IntN.{ℤ, pos}
+use Rattle.refusal.specs.declared.Refusal.the-variants.{Vector, Room, Pairs, Refutation, Last, Step, Witness}
+use Rattle.netlist.specs.Example.{circuitA}
+use Rattle.certificate.specs.declared.Judged.{Judged}
+use Rattle.certificate.specs.declared.Judged.the-variants.{Accepted, Refused}
+use Rattle.certificate.specs.Promise.{Rooms}
+
+-- one certificate call and its answer
+pub record Case : Type 0 where
+  pub file : List ℕ
+  pub delay : ℕ
+  pub vector : List ℕ
+  pub refutation : List ℤ
+  pub rooms : Rooms
+  pub answer : Judged
+
+abbrev pub lending : ℕ → ℕ → ℕ → ℕ → ℕ → Rooms
+lending values times pairs formula propagation =
+    record { values = values; times = times; pairs = pairs; formula = formula; propagation = propagation }
+
+abbrev pub case : List ℕ → ℕ → List ℕ → List ℤ → Rooms → Judged → Case
+case file delay vector refutation rooms answer =
+    record {
+      file = file;
+      delay = delay;
+      vector = vector;
+      refutation = refutation;
+      rooms = rooms;
+      answer = answer;
+    }
+
+-- "An output that is an input, G=0": one input, one output
+unfoldable pub wire : List ℕ
+wire = 0 ∷ 0 ∷ 2 ∷ 0 ∷ 0 ∷ 0 ∷ 1 ∷ 0 ∷ 0 ∷ 0 ∷ 0 ∷ 0 ∷ 1 ∷ 0 ∷ 1 ∷ 0 ∷ []
+
+-- "A, D=2, vector 0,0, refutation "0": accepted. Vector 0,1: WITNESS 1. D=5, vector 0,0: WITNESS 2."
+-- "An output that is an input, G=0: D=0 accepted with "0"."
+-- Then, for circuit A's certificate: each slice one short, a vector that is none, and refutations that are none.
+unfoldable pub cases : List Case
+cases =
+    case circuitA 2 (0 ∷ 0 ∷ []) (pos 0 ∷ []) (lending 5 5 6 48 9) Accepted
+    ∷ case circuitA 2 (0 ∷ 1 ∷ []) (pos 0 ∷ []) (lending 5 5 6 48 9) (Refused (Witness 1))
+    ∷ case circuitA 5 (0 ∷ 0 ∷ []) (pos 0 ∷ []) (lending 5 5 6 48 9) (Refused (Witness 2))
+    ∷ case wire 0 (1 ∷ []) (pos 0 ∷ []) (lending 1 1 0 1 2) Accepted
+    ∷ case circuitA 2 (0 ∷ 0 ∷ []) (pos 0 ∷ []) (lending 4 5 6 48 9) (Refused (Room 5))
+    ∷ case circuitA 2 (0 ∷ 0 ∷ []) (pos 0 ∷ []) (lending 5 4 6 48 9) (Refused (Room 5))
+    ∷ case circuitA 2 (0 ∷ 0 ∷ []) (pos 0 ∷ []) (lending 5 5 5 48 9) (Refused Pairs)
+    ∷ case circuitA 2 (0 ∷ 0 ∷ []) (pos 0 ∷ []) (lending 5 5 6 47 9) (Refused (Room 48))
+    ∷ case circuitA 2 (0 ∷ 0 ∷ []) (pos 0 ∷ []) (lending 5 5 6 48 8) (Refused (Room 9))
+    ∷ case circuitA 2 (0 ∷ 2 ∷ []) (pos 0 ∷ []) (lending 5 5 6 48 9) (Refused (Vector 1))
+    ∷ case circuitA 2 (0 ∷ []) (pos 0 ∷ []) (lending 5 5 6 48 9) (Refused (Vector 2))
+    ∷ case circuitA 2 (0 ∷ 0 ∷ []) [] (lending 5 5 6 48 9) (Refused (Refutation 0))
+    ∷ case circuitA 2 (0 ∷ 0 ∷ []) (pos 9 ∷ pos 0 ∷ []) (lending 5 5 6 48 9) (Refused (Refutation 0))
+    ∷ case circuitA 2 (0 ∷ 0 ∷ []) (pos 1 ∷ pos 0 ∷ []) (lending 5 5 6 48 9) (Refused (Last 1))
+    ∷ case circuitA 2 (0 ∷ 0 ∷ []) (pos 0 ∷ pos 0 ∷ []) (lending 5 5 6 48 9) (Refused (Last 0))
+    ∷ case circuitA 1 (0 ∷ 1 ∷ []) (pos 0 ∷ []) (lending 5 5 6 48 9) (Refused (Step 0)) ∷ []

@@ -1,0 +1,192 @@
+// The judgement of a delay certificate: a delay, a vector that settles at it, and a refutation of the formula for one
+// more. Assumes nothing.
+use formula::Built;
+use netlist::Opened;
+use netlist::Shape;
+use refusal::Refusal;
+use refute::Checked;
+use settle::Settled;
+ghost use mathlib.Core.Path.{_≡_};
+ghost use lib.ListN.{length};
+ghost use Rattle.netlist.specs.Holds.{Holds};
+ghost use Rattle.netlist.specs.File.{netlistAt, netlistOf};
+ghost use Rattle.settle.specs.Settling.{atZero};
+ghost use Rattle.certificate.specs.declared.Judged.the-variants.{Accepted};
+ghost use Rattle.certificate.specs.Largest.{Largest};
+ghost use Rattle.certificate.specs.Promise.{roomsOf, leaving, certificateRows, Decides, Judges};
+ghost use Rattle.certificate.specs.Steps.{Zeroed, Witnessed, Refutes};
+
+// What is said of a certificate.
+pub enum Judged {
+    Accepted,
+    Refused(Refusal),
+}
+
+// A refusal: every lent slice is zeroed.
+fn refuse(
+    refusal: Refusal,
+    values: &mut [u8],
+    times: &mut [u32],
+    pairs: &mut [u32],
+    formula: &mut [i32],
+    propagation: &mut [u8],
+) -> Judged
+    ensures { λ r. ⌜ Zeroed
+        (roomsOf (now (values .entry)) (now (times .entry)) (now (pairs .entry)) (now (formula .entry))
+        (now (propagation .entry)))
+        refusal
+        (leaving r (now (values .exit)) (now (times .exit)) (now (pairs .exit)) (now (formula .exit))
+        (now (propagation .exit))) ⌝ }
+{
+    lent::zero_u8(values);
+    lent::zero_u32(times);
+    lent::zero_u32(pairs);
+    lent::zero_i32(formula);
+    lent::zero_u8(propagation);
+    Judged::Refused(refusal)
+}
+
+// The vector's part: it has a value for each input, there is room for values and times, and it settles at the delay.
+fn witness(
+    file: &[u8],
+    shape: Shape,
+    delay: u32,
+    vector: &[u8],
+    values: &mut [u8],
+    times: &mut [u32],
+) -> Checked
+    requires { ⌜ Holds (now file) shape ⌝ }
+    ensures { λ r. ⌜ Witnessed (netlistAt (now (file .entry)) shape) delay (now (vector .entry))
+        (length (now (values .entry))) (length (now (times .entry))) r (now (values .exit)) (now (times .exit)) ⌝ }
+{
+    let settled = settle::evaluate_accepted(file, shape, vector, values, times);
+    match settled {
+        Settled::Refused(refusal) => Checked::Refused(refusal),
+        Settled::At(time) => {
+            if time == delay {
+                return Checked::Passes;
+            }
+            Checked::Refused(Refusal::Witness(time))
+        }
+    }
+}
+
+// The refutation's part: the formula for the target is built, and the refutation tested against its numbers.
+fn refutes(
+    file: &[u8],
+    shape: Shape,
+    target: u32,
+    refutation: &[i32],
+    pairs: &mut [u32],
+    formula: &mut [i32],
+    propagation: &mut [u8],
+) -> Checked
+    requires { ⌜ Holds (now file) shape ⌝ }
+    ensures { λ r. ⌜ Refutes (netlistAt (now (file .entry)) shape) target (now (refutation .entry))
+        (length (now (pairs .entry))) (length (now (formula .entry))) (length (now (propagation .entry)))
+        r (now (pairs .exit)) (now (formula .exit)) (now (propagation .exit)) ⌝ }
+{
+    let built = formula::build_from(file, shape, target, pairs, formula);
+    match built {
+        Built::Refused(refusal) => Checked::Refused(refusal),
+        Built::Formula(counts) => {
+            let numbers = counts.numbers;
+            let variables = counts.variables;
+            refute::test(variables, &formula[..numbers], refutation, propagation)
+        }
+    }
+}
+
+// Of an accepted file: the vector's part, then the refutation's for one more than the delay.
+fn judge_accepted(
+    file: &[u8],
+    shape: Shape,
+    delay: u32,
+    vector: &[u8],
+    refutation: &[i32],
+    values: &mut [u8],
+    times: &mut [u32],
+    pairs: &mut [u32],
+    formula: &mut [i32],
+    propagation: &mut [u8],
+) -> Judged
+    requires { ⌜ Holds (now file) shape ⌝ }
+    ensures { λ r. ⌜ Decides
+        (certificateRows (netlistAt (now (file .entry)) shape) delay (now (vector .entry)) (now (refutation .entry))
+        (roomsOf (now (values .entry)) (now (times .entry)) (now (pairs .entry)) (now (formula .entry))
+        (now (propagation .entry))))
+        (netlistAt (now (file .entry)) shape) delay (now (vector .entry)) (now (refutation .entry))
+        (roomsOf (now (values .entry)) (now (times .entry)) (now (pairs .entry)) (now (formula .entry))
+        (now (propagation .entry)))
+        (leaving r (now (values .exit)) (now (times .exit)) (now (pairs .exit)) (now (formula .exit))
+        (now (propagation .exit))) ⌝ }
+{
+    let witnessed = witness(file, shape, delay, vector, values, times);
+    match witnessed {
+        Checked::Refused(refusal) => refuse(refusal, values, times, pairs, formula, propagation),
+        Checked::Passes => {
+            let tested = refutes(
+                file,
+                shape,
+                delay + 1,
+                refutation,
+                pairs,
+                formula,
+                propagation,
+            );
+            match tested {
+                Checked::Refused(refusal) => refuse(
+                    refusal,
+                    values,
+                    times,
+                    pairs,
+                    formula,
+                    propagation,
+                ),
+                Checked::Passes => Judged::Accepted,
+            }
+        }
+    }
+}
+
+// The judgement of a certificate: a delay, a vector that settles at exactly it, and a refutation of the formula for
+// one more. Accepted means that the delay is the largest settling time of the file's netlist, whoever wrote the
+// certificate.
+pub fn judge(
+    file: &[u8],
+    delay: u32,
+    vector: &[u8],
+    refutation: &[i32],
+    values: &mut [u8],
+    times: &mut [u32],
+    pairs: &mut [u32],
+    formula: &mut [i32],
+    propagation: &mut [u8],
+) -> Judged
+    ensures { λ r. ⌜ Judges (now (file .entry)) delay (now (vector .entry)) (now (refutation .entry))
+        (roomsOf (now (values .entry)) (now (times .entry)) (now (pairs .entry)) (now (formula .entry))
+        (now (propagation .entry)))
+        (leaving r (now (values .exit)) (now (times .exit)) (now (pairs .exit)) (now (formula .exit))
+        (now (propagation .exit))) ⌝ }
+    ensures { λ r. ⌜ (r ≡ Accepted →
+        Largest (netlistOf (now (file .entry))) (atZero (netlistOf (now (file .entry)))) delay) ⌝ }
+{
+    let opened = netlist::open(file);
+    match opened {
+        Opened::Refused(refusal) => refuse(refusal, values, times, pairs, formula, propagation),
+        Opened::Accepted(shape) => {
+            judge_accepted(
+                file,
+                shape,
+                delay,
+                vector,
+                refutation,
+                values,
+                times,
+                pairs,
+                formula,
+                propagation,
+            )
+        }
+    }
+}
