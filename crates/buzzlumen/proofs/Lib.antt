@@ -1,0 +1,3 @@
+-- The laws.
+pub mod Small
+pub mod Largest

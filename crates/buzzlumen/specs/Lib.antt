@@ -1,0 +1,2 @@
+-- Interface: all of Answers.
+pub mod Answers
