@@ -1,0 +1,32 @@
+-- A slice whose first k entries are what they are to be; one store more makes it k + 1. Assumes nothing.
+use mathlib.Core.Path.{_≡_, refl, sym, subst, _∙_}
+use mathlib.Core.List.{List}
+use Prim.Native.Nat.{ℕ, _+_, _<_, _≤_}
+use native.Mathlib.Omega.{arith}
+use native.Mathlib.Decide.{ℕ-discrete}
+use lib.IntN.{ℤ, pos}
+use lib.ListN.{length, getD, set, length-set}
+use lib.Seq.{getD-set-same, getD-set-other}
+
+-- the entries before k are f's
+pub record Reading (f : ℕ → ℤ) (before now : List ℤ) (k : ℕ) : Type 0 where
+  pub upto : k ≤ length before
+  pub long : length now ≡ length before
+  pub is : (j : ℕ) → j < k → getD now j (pos 0) ≡ f j
+
+pub reading-starts : (f : ℕ → ℤ) (l : List ℤ) → Reading f l l 0
+reading-starts f l = record { upto = omega arith; long = refl; is = λ j h. absurd (omega arith) }
+
+pub reading-more : {f : ℕ → ℤ} {before now : List ℤ} {k : ℕ} (x : ℤ) → Reading f before now k → k < length now →
+    x ≡ f k → Reading f before (set now k x) (k + 1)
+reading-more {f} {before} {now} {k} x b h e =
+    record {
+      upto = omega (arith, b .long);
+      long = length-set now k x ∙ b .long;
+      is = λ j l. go j l (ℕ-discrete j k);
+    }
+  where
+    go : (j : ℕ) → j < k + 1 → Dec (j ≡ k) → getD (set now k x) j (pos 0) ≡ f j
+    go j l (yes p) =
+        subst (λ (i : ℕ). getD (set now k x) i (pos 0) ≡ f i) (sym p) (getD-set-same now k x (pos 0) h ∙ e)
+    go j l (no p) = getD-set-other now k j x (pos 0) p ∙ b .is j (omega arith)

@@ -1,0 +1,89 @@
+// Judges a delay certificate. Standard input: the delay (4 bytes, little endian), the vector's length (4 bytes), the
+// vector, one byte an input, the refutation's length in numbers (4 bytes), its numbers (4 bytes each, two's
+// complement, little endian), then the netlist to the end. Prints `accepted` or `refused number place`. An input of
+// fewer than 8 bytes is `refused 1` and its length; a list that is cut short leaves no netlist, `refused 1 0`. Its
+// room: an input of 524,288 bytes (a longer one: `refused 9 524289`), 32,768 pairs, a formula of 524,288 numbers,
+// 100,000 variables. What matters is certificate::judge's contract. Assumes nothing of its own.
+use certificate::Judged;
+use refusal::Refusal;
+ghost use Prim.Native.Nat.{_*_, _≤_};
+ghost use lib.ListN.{length};
+
+// The answer for a certificate.
+fn show(
+    file: &[u8],
+    delay: u32,
+    vector: &[u8],
+    refutation: &[i32],
+    pairs: &mut [u32],
+    formula: &mut [i32],
+) {
+    let mut values = [0u8; 512];
+    let mut times = [0u32; 512];
+    let mut propagation = [0u8; 100001];
+    let answer = certificate::judge(
+        file,
+        delay,
+        vector,
+        refutation,
+        &mut values,
+        &mut times,
+        pairs,
+        formula,
+        &mut propagation,
+    );
+    match answer {
+        Judged::Accepted => console::print(b"accepted\n"),
+        Judged::Refused(refusal) => console::print_refused(refusal),
+    }
+}
+
+// The refutation read, as many numbers as there is room for, and what stands behind it taken for the netlist.
+fn with_refutation(rest: &[u8], delay: u32, vector: &[u8], numbers: &mut [i32])
+    requires { ⌜ length (now numbers) * 4 ≤ length (now rest) ⌝ }
+{
+    console::numbers_of(rest, numbers);
+    let mut pairs = [0u32; 65536];
+    let mut formula = [0i32; 524288];
+    let end = numbers.len() * 4;
+    show(
+        &rest[end..],
+        delay,
+        vector,
+        numbers,
+        &mut pairs,
+        &mut formula,
+    );
+}
+
+// What stands behind the vector: the refutation's length, the refutation, the netlist.
+fn with_vector(rest: &[u8], delay: u32, vector: &[u8], numbers: &mut [i32]) {
+    if rest.len() < 4 {
+        return console::print_refused(Refusal::Short(0));
+    }
+    let count = console::least(lent::four_bytes(rest, 0), (rest.len() - 4) / 4);
+    if count <= numbers.len() {
+        with_refutation(&rest[4..], delay, vector, &mut numbers[..count]);
+    }
+}
+
+// The input taken apart.
+fn answer(input: &[u8]) {
+    if input.len() < 8 {
+        return console::print_refused(Refusal::Short(input.len()));
+    }
+    let delay = lent::four_bytes(input, 0) as u32;
+    let end = 8 + console::least(lent::four_bytes(input, 4), input.len() - 8);
+    let mut numbers = [0i32; 131072];
+    with_vector(&input[end..], delay, &input[8..end], &mut numbers);
+}
+
+fn main() {
+    let mut input = [0u8; 524289];
+    let got = console::read(&mut input);
+    if 524288 < got {
+        console::print_refused(Refusal::Room(524289));
+        return;
+    }
+    answer(&input[..got]);
+}

@@ -1,0 +1,65 @@
+-- `settle_cases::print_times` is safe and ends: what is left of the slice falls, and nothing has to hold from turn to
+-- turn. Assumes nothing.
+use Prim.Native.Nat.{_-_}
+use native.Mathlib.Omega.{arith}
+use lib.ListN.{length}
+use borrow.Author.Needs.{needs}
+use Rattle.settle_cases.proofs.print_times.Statement.{statement}
+use Rattle.settle_cases.proofs.print_times.Tie as tie
+
+abbrev Inv-loop : tie.InvT-loop
+Inv-loop times i₀ i = Unit {0}
+
+abbrev μ-loop : tie.MeasureT-loop
+μ-loop times i₀ i = length times - i
+
+slice-aggregate-write-all : tie.Need-slice-aggregate-write-all Inv-loop μ-loop
+slice-aggregate-write-all c = search needs
+
+write-all-requires : tie.Need-write-all-requires Inv-loop μ-loop
+write-all-requires c κs = search needs
+
+loop-holds : tie.Need-loop-holds Inv-loop μ-loop
+loop-holds c = tt
+
+mul-widen : tie.Need-mul-widen Inv-loop μ-loop
+mul-widen c = omega arith
+
+shared-slice-read-widen : tie.Need-shared-slice-read-widen Inv-loop μ-loop
+shared-slice-read-widen c = omega arith
+
+widen-requires : tie.Need-widen-requires Inv-loop μ-loop
+widen-requires c κs = search needs
+
+print-number-requires : tie.Need-print-number-requires Inv-loop μ-loop
+print-number-requires c κs = search needs
+
+add-i : tie.Need-add-i Inv-loop μ-loop
+add-i c = omega arith
+
+loop-less : tie.Need-loop-less Inv-loop μ-loop
+loop-less c = omega arith
+
+loop-again : tie.Need-loop-again Inv-loop μ-loop
+loop-again c = tt
+
+returns : tie.Need-returns Inv-loop μ-loop
+returns c = search needs
+
+pub print-times-spec : {M : Type 1} → statement M
+print-times-spec =
+    tie.close
+    (tie.spec
+    Inv-loop
+    μ-loop
+    slice-aggregate-write-all
+    write-all-requires
+    loop-holds
+    mul-widen
+    shared-slice-read-widen
+    widen-requires
+    print-number-requires
+    add-i
+    loop-less
+    loop-again
+    returns)

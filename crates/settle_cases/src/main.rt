@@ -1,0 +1,185 @@
+// Reads a bundle of cases from standard input: a netlist and a vector, each a length (4 bytes, little endian) and that
+// many bytes, then the room for values and the room for times (4 bytes each). Both slices are lent from arrays that are
+// filled with a pattern. For each case it prints one line: `settled time` or `refused number place`, then ` values` and
+// ` times`, each followed by what was lent and four numbers behind it. It ends with the line `bad bundle` at a netlist
+// over 65,535 bytes, a vector over 255, a room over 600, and a case that is cut short. What matters is the contract of
+// settle::evaluate.
+use libc::STDIN_FILENO;
+use libc::STDOUT_FILENO;
+use refusal::Refusal;
+use settle::Settled;
+ghost use mathlib.Core.Path.{_≡_};
+ghost use Prim.Native.Nat.{_≤_};
+ghost use lib.ListN.{length};
+
+// What stands where a number of four bytes should.
+enum Read {
+    Number(usize),
+    Nothing,
+    Cut,
+}
+
+// A space and a number.
+fn print_number(number: usize) {
+    io::write_all(STDOUT_FILENO, b" ");
+    io::print_decimal(STDOUT_FILENO, number as u64);
+}
+
+// The answer.
+fn print_answer(settled: Settled) {
+    match settled {
+        Settled::At(time) => {
+            io::write_all(STDOUT_FILENO, b"settled");
+            print_number(lent::widen(time));
+        }
+        Settled::Refused(refusal) => {
+            io::write_all(STDOUT_FILENO, b"refused");
+            print_number(lent::widen(refusal::number(refusal)));
+            print_number(refusal::place(refusal));
+        }
+    }
+}
+
+// The values.
+fn print_values(values: &[u8]) {
+    io::write_all(STDOUT_FILENO, b" values");
+    let mut i = 0;
+    while i < values.len() {
+        print_number(lent::wide(values[i]));
+        i += 1;
+    }
+}
+
+// The times.
+fn print_times(times: &[u32]) {
+    io::write_all(STDOUT_FILENO, b" times");
+    let mut i = 0;
+    while i < times.len() {
+        print_number(lent::widen(times[i]));
+        i += 1;
+    }
+}
+
+// Room for values, filled with a pattern.
+fn patterned_values() -> [u8; 608]
+    ensures { λ r. ⌜ 608 ≡ length r ⌝ }
+{
+    [170; 608]
+}
+
+// Room for times, filled with a pattern.
+fn patterned_times() -> [u32; 608]
+    ensures { λ r. ⌜ 608 ≡ length r ⌝ }
+{
+    [2863311530; 608]
+}
+
+// The line of one case.
+fn answer(file: &[u8], vector: &[u8], values_room: usize, times_room: usize)
+    requires { ⌜ («values_room» ≤ 600) × («times_room» ≤ 600) ⌝ }
+{
+    let mut values = patterned_values();
+    let mut times = patterned_times();
+    print_answer(settle::evaluate(
+        file,
+        vector,
+        &mut values[..values_room],
+        &mut times[..times_room],
+    ));
+    let values_shown = values_room + 4;
+    print_values(&values[..values_shown]);
+    let times_shown = times_room + 4;
+    print_times(&times[..times_shown]);
+    io::write_all(STDOUT_FILENO, b"\n");
+}
+
+// The end of a bundle that is not one; there is no more case.
+fn bad_bundle() -> bool {
+    io::write_all(STDOUT_FILENO, b"bad bundle\n");
+    false
+}
+
+// Four bytes.
+fn read_number() -> Read {
+    let mut head = [0u8; 4];
+    let got = io::read_full(STDIN_FILENO, &mut head);
+    if got == 0 {
+        return Read::Nothing;
+    }
+    if got < 4 {
+        return Read::Cut;
+    }
+    Read::Number(lent::four_bytes(&head, 0))
+}
+
+// A case of which all but the slices is there; whether to go on.
+fn take_rooms(file: &[u8], vector: &[u8], values_room: usize, times_room: usize) -> bool {
+    if 600 < values_room {
+        return bad_bundle();
+    }
+    if 600 < times_room {
+        return bad_bundle();
+    }
+    answer(file, vector, values_room, times_room);
+    true
+}
+
+// The bytes of a vector, of a length that was read, and the rooms; whether to go on.
+fn read_vector(file: &[u8], vector: &mut [u8]) -> bool {
+    if io::read_full(STDIN_FILENO, vector) < vector.len() {
+        return bad_bundle();
+    }
+    let mut rooms = [0u8; 8];
+    if io::read_full(STDIN_FILENO, &mut rooms) < 8 {
+        return bad_bundle();
+    }
+    let values_room = lent::four_bytes(&rooms, 0);
+    let times_room = lent::four_bytes(&rooms, 4);
+    take_rooms(file, vector, values_room, times_room)
+}
+
+// A vector of a length that was read; whether to go on.
+fn take_vector(file: &[u8], length: usize) -> bool {
+    if 255 < length {
+        return bad_bundle();
+    }
+    let mut vector = io::buffer();
+    read_vector(file, &mut vector[..length])
+}
+
+// The bytes of a netlist, of a length that was read, and the vector; whether to go on.
+fn read_file(file: &mut [u8]) -> bool {
+    if io::read_full(STDIN_FILENO, file) < file.len() {
+        return bad_bundle();
+    }
+    match read_number() {
+        Read::Number(length) => take_vector(file, length),
+        Read::Nothing | Read::Cut => bad_bundle(),
+    }
+}
+
+// A netlist of a length that was read; whether to go on.
+fn take_file(length: usize) -> bool {
+    if 65535 < length {
+        return bad_bundle();
+    }
+    let mut file = io::large_buffer();
+    read_file(&mut file[..length])
+}
+
+// One case; whether to go on.
+fn next_case() -> bool {
+    match read_number() {
+        Read::Number(length) => take_file(length),
+        Read::Nothing => false,
+        Read::Cut => bad_bundle(),
+    }
+}
+
+// A proved loop has to end, and nothing says that a bundle does: it counts down from a number that no run uses up.
+fn main() {
+    let mut turns = u64::MAX;
+    while turns > 0 && next_case() {
+        turns -= 1;
+    }
+}

@@ -1,0 +1,69 @@
+// Prints the timing formula for a target as DIMACS CNF. Standard input: the target (4 bytes, little endian), then the
+// netlist to the end. Prints `p cnf V C`, then one clause a line; or `refused number place`, where places count
+// without the target's bytes. An input of fewer than 4 bytes is `refused 1` and its length. Its room: a netlist of
+// 65,532 bytes (a longer one: `refused 9 65533`), 8,192 pairs, a formula of 16,384 numbers. What matters is
+// formula::build's contract. Assumes nothing of its own.
+use formula::Built;
+use formula::Counts;
+use refusal::Refusal;
+
+// One number: a 0 ends its line, after any other comes a space.
+fn print_entry(number: i32) {
+    let code = clauses::code_of(number);
+    if code == 0 {
+        return console::print(b"0\n");
+    }
+    if code % 2 == 1 {
+        console::print(b"-");
+    }
+    console::print_decimal(code / 2);
+    console::print(b" ");
+}
+
+// All numbers, one clause a line.
+fn print_entries(numbers: &[i32]) {
+    let mut k = 0;
+    while k < numbers.len() {
+        print_entry(numbers[k]);
+        k += 1;
+    }
+}
+
+// The header with the counts of variables and clauses, then the clauses.
+fn print_formula(counts: Counts, formula: &[i32]) {
+    console::print(b"p cnf");
+    console::print_number(counts.variables);
+    console::print_number(counts.clauses);
+    console::print(b"\n");
+    let numbers = console::least(counts.numbers, formula.len());
+    print_entries(&formula[..numbers]);
+}
+
+// The answer for a netlist and a target.
+fn show(file: &[u8], target: u32, pairs: &mut [u32], formula: &mut [i32]) {
+    match formula::build(file, target, pairs, formula) {
+        Built::Formula(counts) => print_formula(counts, formula),
+        Built::Refused(refusal) => console::print_refused(refusal),
+    }
+}
+
+// The input taken apart.
+fn answer(input: &[u8]) {
+    if input.len() < 4 {
+        return console::print_refused(Refusal::Short(input.len()));
+    }
+    let target = lent::four_bytes(input, 0) as u32;
+    let mut pairs = [0u32; 16384];
+    let mut formula = [0i32; 16384];
+    show(&input[4..], target, &mut pairs, &mut formula);
+}
+
+fn main() {
+    let mut input = [0u8; 65537];
+    let got = console::read(&mut input);
+    if 65536 < got {
+        console::print_refused(Refusal::Room(65533));
+        return;
+    }
+    answer(&input[..got]);
+}

@@ -1,0 +1,73 @@
+// Prints values and settling times of a circuit under a vector. Standard input: the vector's length (4 bytes, little
+// endian), the vector, one byte an input, then the netlist to the end. Prints `settled T`, then a line `node value
+// time` for each node; or `refused number place`. An input of fewer than 4 bytes is `refused 1` and its length; a
+// vector that is cut short leaves no netlist, `refused 1 0`. Its room: an input of 65,536 bytes (a longer one:
+// `refused 9 65537`). What matters is settle::evaluate's contract. Assumes nothing of its own.
+use netlist::Opened;
+use refusal::Refusal;
+use settle::Settled;
+ghost use Prim.Native.Nat.{_≤_};
+ghost use lib.ListN.{length};
+
+// How many nodes the netlist has; none where it is refused.
+fn node_count(file: &[u8]) -> usize {
+    match netlist::open(file) {
+        Opened::Accepted(shape) => shape.inputs + shape.gates,
+        Opened::Refused(_) => 0,
+    }
+}
+
+// The line of one node.
+fn print_node(node: usize, values: &[u8], times: &[u32]) {
+    if node < values.len() {
+        if node < times.len() {
+            console::print_decimal(node);
+            console::print_number(lent::wide(values[node]));
+            console::print_number(lent::widen(times[node]));
+            console::print(b"\n");
+        }
+    }
+}
+
+// One line for each node.
+fn print_nodes(count: usize, values: &[u8], times: &[u32]) {
+    let mut node = 0;
+    while node < count {
+        print_node(node, values, times);
+        node += 1;
+    }
+}
+
+// The answer for a netlist and a vector.
+fn show(file: &[u8], vector: &[u8], values: &mut [u8], times: &mut [u32]) {
+    match settle::evaluate(file, vector, values, times) {
+        Settled::At(time) => {
+            console::print(b"settled");
+            console::print_number(lent::widen(time));
+            console::print(b"\n");
+            print_nodes(node_count(file), values, times);
+        }
+        Settled::Refused(refusal) => console::print_refused(refusal),
+    }
+}
+
+// The input taken apart.
+fn answer(input: &[u8]) {
+    if input.len() < 4 {
+        return console::print_refused(Refusal::Short(input.len()));
+    }
+    let end = 4 + console::least(lent::four_bytes(input, 0), input.len() - 4);
+    let mut values = [0u8; 512];
+    let mut times = [0u32; 512];
+    show(&input[end..], &input[4..end], &mut values, &mut times);
+}
+
+fn main() {
+    let mut input = [0u8; 65537];
+    let got = console::read(&mut input);
+    if 65536 < got {
+        console::print_refused(Refusal::Room(65537));
+        return;
+    }
+    answer(&input[..got]);
+}
