@@ -1,0 +1,516 @@
+"""Document 01 in Python, written to be obviously right and not to be fast.
+
+Each function says one sentence or one table of document 01 and nothing else. It was written from that page alone,
+never from the library, so that a difference between the two shows a mistake in one of them. The four calls at the end
+(evaluate, build, check, judge) give the answer and the whole final content of every slice that the caller lends.
+Assumes nothing but the standard library of Python 3.
+"""
+
+import struct
+from collections import namedtuple
+
+# The refusal table: number and name.
+(SHORT, VERSION, COUNT, BACK, GATE, PIN, OUTPUT, VECTOR,
+ ROOM, PAIRS, FORMULA, REFUTATION, LAST, STEP, WITNESS) = range(1, 16)
+
+# The nine kinds of gate.
+BUF, NOT, AND, NAND, OR, NOR, XOR, XNOR, MUX = range(1, 10)
+SIMPLE = (BUF, NOT, AND, NAND, OR, NOR)
+
+# Least and largest number of pins of each kind.
+PIN_COUNTS = {BUF: (1, 1), NOT: (1, 1), AND: (2, 8), NAND: (2, 8), OR: (2, 8), NOR: (2, 8),
+              XOR: (2, 2), XNOR: (2, 2), MUX: (3, 3)}
+
+# The controlling value c of a simple gate, and the output k that it forces.
+CONTROLLING = {BUF: 0, NOT: 0, AND: 0, NAND: 0, OR: 1, NOR: 1}
+FORCED = {BUF: 0, NOT: 1, AND: 0, NAND: 1, OR: 1, NOR: 0}
+
+TRAILER = 14
+MOST_INPUTS, MOST_GATES, MOST_PINS, MOST_OUTPUTS = 64, 448, 2048, 64
+MOST_DELAY = 999
+MOST_PAIRS = 65536
+MOST_VARIABLES = 100000
+
+# The room of the program that prints a formula.
+PROGRAM_NETLIST, PROGRAM_PAIRS, PROGRAM_FORMULA = 65532, 8192, 16384
+
+# The parts of a clause that are no literal.
+SURE, NEVER = "always true", "always false"
+
+Pin = namedtuple("Pin", "driver delay")
+Gate = namedtuple("Gate", "kind pins")
+Netlist = namedtuple("Netlist", "inputs gates outputs")
+
+# What a call answers.
+Refused = namedtuple("Refused", "number place")
+Settled = namedtuple("Settled", "time")
+Built = namedtuple("Built", "variables clauses numbers pairs")
+Passes = namedtuple("Passes", "")
+Accepted = namedtuple("Accepted", "")
+
+
+class Refusal(Exception):
+    """Raised at the first check that fails; carries the answer."""
+
+    def __init__(self, number, place):
+        super().__init__(number, place)
+        self.answer = Refused(number, place)
+
+
+# The netlist file
+
+
+def read_netlist(data):
+    """The netlist that a file's bytes hold; checks 1 to 7 in table order."""
+    gate_count, pin_count, output_count, inputs, tables = read_trailer(data)
+    gate_rows = [struct.unpack_from("<BBH", tables, 4 * g) for g in range(gate_count)]
+    pin_rows = [struct.unpack_from("<HH", tables, 4 * (gate_count + p)) for p in range(pin_count)]
+    first_output = 4 * (gate_count + pin_count)
+    outputs = [struct.unpack_from("<H", tables, first_output + 2 * q)[0] for q in range(output_count)]
+    check_gates(gate_rows, pin_count)
+    check_pins(gate_rows, pin_rows, inputs)
+    check_outputs(outputs, inputs + gate_count)
+    gates = [Gate(kind, [Pin(*row) for row in pin_rows[first:first + count]]) for kind, count, first in gate_rows]
+    return Netlist(inputs, gates, outputs)
+
+
+def read_trailer(data):
+    """The counts in the trailer and the bytes of the tables that it points back to; checks 1 to 4."""
+    if len(data) < TRAILER:
+        raise Refusal(SHORT, len(data))
+    end = len(data) - TRAILER
+    back, inputs, gates, pins, outputs, version = struct.unpack_from("<IHHHHH", data, end)
+    if version != 1:
+        raise Refusal(VERSION, version)
+    ranges = ((inputs, 1, MOST_INPUTS), (gates, 0, MOST_GATES), (pins, 0, MOST_PINS), (outputs, 1, MOST_OUTPUTS))
+    for place, (count, least, most) in enumerate(ranges):
+        if not least <= count <= most:
+            raise Refusal(COUNT, place)
+    if back != 4 * gates + 4 * pins + 2 * outputs or back > end:
+        raise Refusal(BACK, 0)
+    return gates, pins, outputs, inputs, data[end - back:end]
+
+
+def check_gates(gate_rows, pin_count):
+    """Check 5: each gate's kind, pin count and first pin, then the sum of the pin counts."""
+    pins_before = 0
+    for place, (kind, count, first) in enumerate(gate_rows):
+        if kind not in PIN_COUNTS:
+            raise Refusal(GATE, place)
+        least, most = PIN_COUNTS[kind]
+        if not least <= count <= most or first != pins_before:
+            raise Refusal(GATE, place)
+        pins_before += count
+    if pins_before != pin_count:
+        raise Refusal(GATE, len(gate_rows))
+
+
+def check_pins(gate_rows, pin_rows, inputs):
+    """Check 6: a pin's node is smaller than its gate's node, and its delay is at most 999."""
+    for g, (_, count, first) in enumerate(gate_rows):
+        for place in range(first, first + count):
+            driver, delay = pin_rows[place]
+            if driver >= inputs + g or delay > MOST_DELAY:
+                raise Refusal(PIN, place)
+
+
+def check_outputs(outputs, nodes):
+    """Check 7: the outputs are strictly rising node numbers."""
+    for place, node in enumerate(outputs):
+        if node >= nodes or (place > 0 and node <= outputs[place - 1]):
+            raise Refusal(OUTPUT, place)
+
+
+def write_netlist(netlist, note=b""):
+    """The bytes of a file that holds a netlist, with a note in front. Nothing is checked."""
+    gate_table, pin_table = b"", b""
+    first = 0
+    for gate in netlist.gates:
+        gate_table += struct.pack("<BBH", gate.kind, len(gate.pins), first)
+        pin_table += b"".join(struct.pack("<HH", pin.driver, pin.delay) for pin in gate.pins)
+        first += len(gate.pins)
+    output_table = b"".join(struct.pack("<H", node) for node in netlist.outputs)
+    tables = gate_table + pin_table + output_table
+    counts = (netlist.inputs, len(netlist.gates), first, len(netlist.outputs))
+    return note + tables + struct.pack("<IHHHHH", len(tables), *counts, 1)
+
+
+def node_count(netlist):
+    """N: the inputs and the gates."""
+    return netlist.inputs + len(netlist.gates)
+
+
+# Settling
+
+
+def check_vector(netlist, vector):
+    """Check 8: the vector's length, then each byte."""
+    if len(vector) != netlist.inputs:
+        raise Refusal(VECTOR, netlist.inputs)
+    for place, byte in enumerate(vector):
+        if byte > 1:
+            raise Refusal(VECTOR, place)
+
+
+def gate_value(kind, pins):
+    """The value a gate gives for the values of its pins, in pin order."""
+    if kind == BUF:
+        return pins[0]
+    if kind == NOT:
+        return 1 - pins[0]
+    if kind in (AND, NAND):
+        every = 1 if all(pins) else 0
+        return every if kind == AND else 1 - every
+    if kind in (OR, NOR):
+        some = 1 if any(pins) else 0
+        return some if kind == OR else 1 - some
+    if kind in (XOR, XNOR):
+        differ = 1 if pins[0] != pins[1] else 0
+        return differ if kind == XOR else 1 - differ
+    select, a, b = pins
+    return b if select else a
+
+
+def gate_time(kind, pins):
+    """When a gate settles; a pin is (value, the time it is ready).
+
+    A simple gate with a pin at c settles when the first such pin is ready; otherwise when its last pin is ready.
+    XOR, XNOR and MUX settle when the last pin is ready.
+    """
+    if kind in SIMPLE:
+        controlling = [ready for value, ready in pins if value == CONTROLLING[kind]]
+        if controlling:
+            return min(controlling)
+    return max(ready for _, ready in pins)
+
+
+def settle(netlist, vector):
+    """The value and the settling time of each node. An input settles at 0."""
+    values, times = list(vector), [0] * netlist.inputs
+    for gate in netlist.gates:
+        pins = [(values[pin.driver], times[pin.driver] + pin.delay) for pin in gate.pins]
+        values.append(gate_value(gate.kind, [value for value, _ in pins]))
+        times.append(gate_time(gate.kind, pins))
+    return values, times
+
+
+def circuit_time(netlist, times):
+    """The circuit settles at the largest time of its outputs."""
+    return max(times[node] for node in netlist.outputs)
+
+
+def check_room(room, needed):
+    """Check 9: a lent slice is at least as long as needed."""
+    if room < needed:
+        raise Refusal(ROOM, needed)
+
+
+# The formula for a target
+
+
+def tops_of(netlist):
+    """top of each node: the longest sum of delays to it, 0 for an input."""
+    tops = [0] * netlist.inputs
+    for gate in netlist.gates:
+        tops.append(max(tops[pin.driver] + pin.delay for pin in gate.pins))
+    return tops
+
+
+def late(tops, node, t):
+    """"Node late at t": true if t is 0 or less, false if t exceeds the node's top, otherwise the pair (node, t)."""
+    if t <= 0:
+        return SURE
+    if t > tops[node]:
+        return NEVER
+    return (node, t)
+
+
+def pairs_of(netlist, target, limit):
+    """The pairs by node rising, then t rising: the least set that holds each output's pair at the target and, for each
+    pair (f, t) and each pin of f, the driver's pair at t less the pin's delay. Check 10: at most `limit` pairs; the
+    set only grows, so the search ends where it has passed the limit.
+    """
+    tops = tops_of(netlist)
+    found = set()
+    waiting = [late(tops, node, target) for node in netlist.outputs]
+    while waiting:
+        pair = waiting.pop()
+        if pair in (SURE, NEVER) or pair in found:
+            continue
+        found.add(pair)
+        if len(found) > limit:
+            raise Refusal(PAIRS, 0)
+        node, t = pair
+        gate = netlist.gates[node - netlist.inputs]
+        waiting += [late(tops, pin.driver, t - pin.delay) for pin in gate.pins]
+    return sorted(found)
+
+
+def pair_limit(room):
+    """A table of so many numbers holds half as many pairs, and never more than 65,536."""
+    return min(room // 2, MOST_PAIRS)
+
+
+def node_is(node, value):
+    """The literal "node is value". A node's variable is its number plus 1."""
+    return node + 1 if value else -(node + 1)
+
+
+def gate_clauses(node, gate):
+    """The clauses that tie a gate's value to those of its drivers."""
+    drivers = [pin.driver for pin in gate.pins]
+    if gate.kind in SIMPLE:
+        return simple_clauses(node, drivers, CONTROLLING[gate.kind], FORCED[gate.kind])
+    if gate.kind in (XOR, XNOR):
+        first, second = drivers
+        return [[node_is(first, 1 - x), node_is(second, 1 - y), node_is(node, gate_value(gate.kind, [x, y]))]
+                for x, y in ((0, 0), (0, 1), (1, 0), (1, 1))]
+    s, a, b, f = (variable + 1 for variable in drivers + [node])
+    return [[s, -a, f], [s, a, -f], [-s, -b, f], [-s, b, -f]]
+
+
+def simple_clauses(node, drivers, c, k):
+    """For each pin, "driver is not c, gate is k"; then "driver is c" for every pin and "gate is not k"."""
+    each = [[node_is(driver, 1 - c), node_is(node, k)] for driver in drivers]
+    return each + [[node_is(driver, c) for driver in drivers] + [node_is(node, 1 - k)]]
+
+
+def pair_clauses(pair, number, gate, part):
+    """The clauses of the pair (f, t) with variable `number`; `part` turns "node late at t" into a part of a clause.
+
+    "-p, or some driver late at t less its delay", drivers in pin order. For a simple gate then, for each pin:
+    "-p, driver late, driver is not c".
+    """
+    _, t = pair
+    drivers_late = [part(pin.driver, t - pin.delay) for pin in gate.pins]
+    clauses = [[-number] + drivers_late]
+    if gate.kind in SIMPLE:
+        c = CONTROLLING[gate.kind]
+        for pin, driver_late in zip(gate.pins, drivers_late):
+            clauses.append([-number, driver_late, node_is(pin.driver, 1 - c)])
+    return clauses
+
+
+def without_constants(clauses):
+    """A clause with a true part is left out; a false part is left out of its clause."""
+    return [[part for part in clause if part != NEVER] for clause in clauses if SURE not in clause]
+
+
+def clauses_for(netlist, target, pairs):
+    """The formula's clauses in order: each gate's, each pair's, then "some output is late at the target"."""
+    tops = tops_of(netlist)
+    # Pairs take N+1, N+2 and on.
+    number_of = {pair: node_count(netlist) + 1 + place for place, pair in enumerate(pairs)}
+
+    def part(node, t):
+        condition = late(tops, node, t)
+        return condition if condition in (SURE, NEVER) else number_of[condition]
+
+    clauses = []
+    for g, gate in enumerate(netlist.gates):
+        clauses += gate_clauses(netlist.inputs + g, gate)
+    for pair in pairs:
+        gate = netlist.gates[pair[0] - netlist.inputs]
+        clauses += pair_clauses(pair, number_of[pair], gate, part)
+    clauses.append([part(node, target) for node in netlist.outputs])
+    return without_constants(clauses)
+
+
+def numbers_of(clauses):
+    """The clauses as one list of numbers, each clause ended by 0."""
+    return [number for clause in clauses for number in clause + [0]]
+
+
+# Unit propagation
+
+
+def clauses_in(numbers):
+    """The clauses in a list of numbers. Numbers after the last 0 are no clause."""
+    clauses, clause = [], []
+    for number in numbers:
+        if number == 0:
+            clauses.append(clause)
+            clause = []
+        else:
+            clause.append(number)
+    return clauses
+
+
+def follows(clause, stored):
+    """Whether unit propagation finds that a clause follows from the stored clauses."""
+    true = set()
+    # Assert the opposite of each literal. If two assertions contradict, the clause follows.
+    for literal in clause:
+        if literal in true:
+            return True
+        true.add(-literal)
+    again = True
+    while again:
+        again = False
+        for other in stored:
+            not_false = {literal for literal in other if -literal not in true}
+            # If a stored clause has every literal false, the clause follows.
+            if not not_false:
+                return True
+            # If all its literals are false but occurrences of one unassigned literal, that literal becomes true.
+            if len(not_false) == 1 and not not_false <= true:
+                true |= not_false
+                again = True
+    # Neither rule applies.
+    return False
+
+
+def first_beyond(numbers, variables):
+    """The index of the first literal of magnitude over V, or None."""
+    for index, number in enumerate(numbers):
+        if abs(number) > variables:
+            return index
+    return None
+
+
+def check_formula(variables, formula):
+    """Check 11, in its order."""
+    if variables > MOST_VARIABLES:
+        raise Refusal(FORMULA, 0)
+    beyond = first_beyond(formula, variables)
+    if beyond is not None:
+        raise Refusal(FORMULA, beyond)
+    if formula and formula[-1] != 0:
+        raise Refusal(FORMULA, len(formula))
+
+
+def check_refutation(variables, formula, refutation, propagation_room):
+    """Checks 12, 13, 9 for the propagation slice, 14."""
+    beyond = first_beyond(refutation, variables)
+    if beyond is not None:
+        raise Refusal(REFUTATION, beyond)
+    if not refutation or refutation[-1] != 0:
+        raise Refusal(REFUTATION, len(refutation))
+    steps = clauses_in(refutation)
+    check_last(steps)
+    check_room(propagation_room, variables + 1)
+    stored = clauses_in(formula)
+    for place, step in enumerate(steps):
+        if not follows(step, stored):
+            raise Refusal(STEP, place)
+        stored.append(step)
+
+
+def check_last(steps):
+    """Check 13: the last clause is empty and no other is."""
+    for place, step in enumerate(steps[:-1]):
+        if not step:
+            raise Refusal(LAST, place)
+    if steps[-1]:
+        raise Refusal(LAST, len(steps))
+
+
+# The four calls. Rooms are the lengths of the slices lent for writing; each call gives its answer and then the final
+# content of those slices in the order of its rooms.
+
+
+def after(results, room):
+    """What a lent slice holds at the end: the results, then zeros."""
+    return list(results) + [0] * (room - len(results))
+
+
+def call(work, rooms):
+    """Run one call. Any refusal zeroes all slices lent for writing."""
+    try:
+        answer, results = work()
+    except Refusal as refusal:
+        answer, results = refusal.answer, [[] for _ in rooms]
+    return (answer, *[after(result, room) for result, room in zip(results, rooms)])
+
+
+def settle_checked(netlist, vector, values_room, times_room):
+    """Check 8, check 9 for values, then for times; then the values and times."""
+    check_vector(netlist, vector)
+    check_room(values_room, node_count(netlist))
+    check_room(times_room, node_count(netlist))
+    return settle(netlist, vector)
+
+
+def build_checked(netlist, target, pairs_room, formula_room):
+    """Check 10, then 9 for the formula; the pairs, the clauses and the formula's numbers."""
+    pairs = pairs_of(netlist, target, pair_limit(pairs_room))
+    clauses = clauses_for(netlist, target, pairs)
+    numbers = numbers_of(clauses)
+    check_room(formula_room, len(numbers))
+    return pairs, clauses, numbers
+
+
+def table_of(pairs):
+    """In the lent table a pair is two numbers, node then t."""
+    return [number for pair in pairs for number in pair]
+
+
+def evaluate(data, vector, values_room, times_room):
+    """1..8, then 9 for values, then times. Gives Settled or Refused, values, times."""
+    def work():
+        netlist = read_netlist(data)
+        values, times = settle_checked(netlist, vector, values_room, times_room)
+        return Settled(circuit_time(netlist, times)), [values, times]
+    return call(work, [values_room, times_room])
+
+
+def build(data, target, pairs_room, formula_room):
+    """1..7, 10, then 9 for the formula. Gives Built or Refused, pairs, formula."""
+    def work():
+        netlist = read_netlist(data)
+        pairs, clauses, numbers = build_checked(netlist, target, pairs_room, formula_room)
+        built = Built(node_count(netlist) + len(pairs), len(clauses), len(numbers), len(pairs))
+        return built, [table_of(pairs), numbers]
+    return call(work, [pairs_room, formula_room])
+
+
+def check(variables, formula, refutation, propagation_room):
+    """11, 12, 13, 9, 14. Gives Passes or Refused, propagation."""
+    def work():
+        check_formula(variables, formula)
+        check_refutation(variables, formula, refutation, propagation_room)
+        return Passes(), [[]]
+    return call(work, [propagation_room])
+
+
+def judge(data, delay, vector, refutation, values_room, times_room, pairs_room, formula_room, propagation_room):
+    """1..8, 9 for values and times, 15, 10, 9 for the formula, 12, 13, 9 for propagation, 14.
+    Gives Accepted or Refused, values, times, pairs, formula, propagation.
+    """
+    def work():
+        netlist = read_netlist(data)
+        values, times = settle_checked(netlist, vector, values_room, times_room)
+        if circuit_time(netlist, times) != delay:
+            raise Refusal(WITNESS, circuit_time(netlist, times))
+        pairs, _, numbers = build_checked(netlist, delay + 1, pairs_room, formula_room)
+        check_refutation(node_count(netlist) + len(pairs), numbers, refutation, propagation_room)
+        return Accepted(), [values, times, table_of(pairs), numbers, []]
+    return call(work, [values_room, times_room, pairs_room, formula_room, propagation_room])
+
+
+# The program that prints a formula
+
+
+def dimacs(variables, clauses):
+    """DIMACS CNF: the header with variable and clause counts, then one clause a line."""
+    lines = ["p cnf %d %d" % (variables, len(clauses))]
+    lines += [" ".join(str(number) for number in clause + [0]) for clause in clauses]
+    return "".join(line + "\n" for line in lines)
+
+
+def refused_line(number, place):
+    """What a program prints on a refusal."""
+    return "refused %d %d\n" % (number, place)
+
+
+def formula_program(data):
+    """What the formula program prints when it reads these bytes: a target (4 bytes) and a netlist."""
+    if len(data) < 4:
+        return refused_line(SHORT, len(data))
+    target, netlist = struct.unpack_from("<I", data)[0], data[4:]
+    if len(netlist) > PROGRAM_NETLIST:
+        return refused_line(ROOM, PROGRAM_NETLIST + 1)
+    answer, _, numbers = build(netlist, target, 2 * PROGRAM_PAIRS, PROGRAM_FORMULA)
+    if isinstance(answer, Refused):
+        return refused_line(*answer)
+    return dimacs(answer.variables, clauses_in(numbers[:answer.numbers]))

@@ -1,0 +1,71 @@
+"""Finds the commands that the tests run, installs what is missing by apt-get, and builds the C host.
+
+The library is x86-64 code. On an x86-64 machine the host is built by gcc and run as it is; on an aarch64 machine it is
+built by the cross compiler and run under qemu. Assumes Debian, and the right to install, where something is missing.
+"""
+
+import os
+import platform
+import shutil
+import subprocess
+import sys
+
+ROOT = os.path.dirname(os.path.dirname(os.path.abspath(__file__)))
+
+PACKAGES = {
+    "gcc": "gcc libc6-dev",
+    "cadical": "cadical",
+    "picosat": "picosat",
+    "valgrind": "valgrind",
+    "x86_64-linux-gnu-gcc": "gcc-x86-64-linux-gnu libc6-dev-amd64-cross",
+    "qemu-x86_64": "qemu-user",
+}
+
+
+def need(*commands):
+    """Make sure that commands are there; install their packages where they are not."""
+    missing = [command for command in commands if shutil.which(command) is None]
+    if missing:
+        packages = [package for command in missing for package in PACKAGES[command].split()]
+        print("installing: " + " ".join(packages), file=sys.stderr)
+        become = [] if os.geteuid() == 0 else ["sudo"]
+        for arguments in (["update", "-q"], ["install", "-q", "-y", "--no-install-recommends", *packages]):
+            subprocess.run(become + ["apt-get", *arguments], stdout=sys.stderr, check=False)
+    for command in commands:
+        if shutil.which(command) is None:
+            sys.exit("missing and not to be installed: " + command)
+
+
+def is_native():
+    """Whether this machine runs x86-64 code itself."""
+    return platform.machine() in ("x86_64", "amd64", "AMD64")
+
+
+def compiler():
+    """The C compiler that makes x86-64 code, with the options it needs here."""
+    if is_native():
+        need("gcc")
+        return ["gcc"]
+    need("x86_64-linux-gnu-gcc")
+    return ["x86_64-linux-gnu-gcc", "-static"]
+
+
+def runner():
+    """What stands before the name of an x86-64 program to run it here."""
+    if is_native():
+        return []
+    need("qemu-x86_64")
+    return ["qemu-x86_64"]
+
+
+def build_host(directory, archive):
+    """Build the C host with the library's archive, or with the twin where there is none; gives the program's path."""
+    program = os.path.join(directory, "host")
+    sources = [os.path.join(ROOT, "tests", "host.c")]
+    if archive is None:
+        sources += ["-DPREFIX=buzzlumen_", os.path.join(ROOT, "bench", "twin.c")]
+    else:
+        sources.append(archive)
+    options = ["-O2", "-g", "-Wall", "-I", os.path.join(ROOT, "include"), "-o", program]
+    subprocess.run(compiler() + options + sources, check=True)
+    return program
