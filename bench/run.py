@@ -1,0 +1,160 @@
+#!/usr/bin/env python3
+"""What the library costs beside its twin in plain C, in instructions executed, which are the same in every run.
+
+Builds one program of the library's archive (target/staticlib/libbuzzlumen.a), the twin and cost.c, and counts the
+instructions of a call as the difference of a run with one call more: by valgrind on x86-64, by a small plugin of qemu's
+on Arm. Prints a table of ratios and how the cost grows. `--quick` leaves out 65,536
+pairs; `--long` adds a refutation of many thousand steps, some minutes. A benchmark, not a test.
+Assumes Debian, and the right to install what is missing.
+"""
+
+import os
+import re
+import struct
+import subprocess
+import sys
+import tempfile
+
+HERE = os.path.dirname(os.path.abspath(__file__))
+ROOT = os.path.dirname(HERE)
+sys.path.insert(0, os.path.join(ROOT, "tests"))
+
+import document  # noqa: E402
+import methods  # noqa: E402
+import solvers  # noqa: E402
+import tools  # noqa: E402
+
+SEED = 2026
+
+
+def build_program(folder, archive):
+    """The program that calls both, from the archive, the twin and cost.c."""
+    program = os.path.join(folder, "cost")
+    subprocess.run(
+        [*tools.compiler(), "-O2", "-Wall", "-I", os.path.join(ROOT, "include"), "-o", program,
+         os.path.join(HERE, "cost.c"), os.path.join(HERE, "twin.c"), archive], check=True)
+    return program
+
+
+def counter(folder):
+    """A function that gives the instructions that a command executes, and what it prints."""
+    if tools.is_native():
+        tools.need("valgrind")
+
+        def count(command):
+            run = subprocess.run(
+                ["valgrind", "--tool=callgrind", "--callgrind-out-file=" + os.path.join(folder, "callgrind"), *command],
+                capture_output=True, text=True, check=True)
+            return int(re.search(r"Collected : (\d+)", run.stderr).group(1)), run.stdout
+        return count
+    plugin = os.path.join(folder, "icount.so")
+    subprocess.run(["gcc", "-O2", "-shared", "-fPIC", "-o", plugin, os.path.join(HERE, "icount.c")], check=True)
+
+    def count_by_plugin(command):
+        run = subprocess.run([*tools.runner(), "-plugin", plugin, *command],
+                             capture_output=True, text=True, check=True)
+        return int(re.search(r"(\d+)\s*$", run.stderr).group(1)), run.stdout
+    return count_by_plugin
+
+
+def cost(count, program, which, function, arguments, calls):
+    """Instructions of one call: what so many calls more add, shared among them."""
+    once, _ = count([program, which, function, "1", *arguments])
+    more, answer = count([program, which, function, str(1 + calls), *arguments])
+    return (more - once) // calls, answer
+
+
+def write(folder, name, data):
+    """A file of the case, and its path."""
+    path = os.path.join(folder, name)
+    with open(path, "wb") as file:
+        file.write(data)
+    return path
+
+
+def numbers(values):
+    """Signed numbers as bytes."""
+    return struct.pack(f"<{len(values)}i", *values)
+
+
+def evaluation_cases(folder, dice):
+    """The largest netlist, and smaller ones."""
+    netlists = ("a small netlist", methods.random_netlist(dice, 6, 40)), ("the largest", methods.largest_netlist(dice))
+    for name, netlist in netlists:
+        data = document.write_netlist(netlist)
+        vector = bytes(methods.random_vector(dice, netlist.inputs))
+        yield (f"evaluate, {name}: {len(netlist.gates)} gates", "evaluate",
+               [write(folder, "netlist", data), write(folder, "vector", vector)], 20)
+
+
+def building_cases(folder, dice, quick):
+    """Formulas of 1,000, 10,000 and 65,536 pairs."""
+    for pairs in (1000, 10000) if quick else (1000, 10000, 65536):
+        netlist = methods.ladders_for_pairs(dice, pairs)
+        path = write(folder, "netlist", document.write_netlist(netlist))
+        yield f"build, {pairs:,} pairs", "build", [path, str(methods.LADDER_TARGET), "131072", "4000000"], 1
+
+
+def checking_cases(folder, long):
+    """Refutations that a solver wrote, of some hundred and some thousand steps."""
+    for clauses, variables in solver_formulas(long):
+        _, steps = solvers.cadical(variables, clauses)
+        flat = [literal for clause in clauses for literal in (*clause, 0)]
+        proof = [literal for clause in steps for literal in (*clause, 0)]
+        yield (f"check, {len(clauses):,} clauses, {len(steps):,} steps", "check",
+               [str(variables), write(folder, "formula", numbers(flat)), write(folder, "refutation", numbers(proof))], 1)
+
+
+def pigeons(holes):
+    """More pigeons than holes: each has one, no two share."""
+    def sits(pigeon, hole):
+        return pigeon * holes + hole + 1
+    clauses = [[sits(p, h) for h in range(holes)] for p in range(holes + 1)]
+    clauses += [[-sits(p, h), -sits(q, h)] for h in range(holes) for p in range(holes + 1) for q in range(p)]
+    return clauses, (holes + 1) * holes
+
+
+def solver_formulas(long):
+    """Pigeonhole formulas, whose refutations grow fast."""
+    for holes in (5, 6, 7) if long else (5, 6):
+        yield pigeons(holes)
+
+
+def zeroing_cases():
+    """A refused call, which zeroes what was lent."""
+    yield "zeroing, 2 x 1,000,000 numbers", "zero", ["1000000"], 4
+
+
+def compare(count, program, case):
+    """One line of the table."""
+    name, function, arguments, calls = case
+    ours, answer = cost(count, program, "library", function, arguments, calls)
+    twins, other = cost(count, program, "twin", function, arguments, calls)
+    if answer != other:
+        sys.exit(f"{name}: the answers differ: {answer.strip()} and {other.strip()}")
+    print(f"{name:<48} {ours:>14,} {twins:>14,} {ours / twins:>7.2f}", flush=True)
+
+
+def main():
+    quick = "--quick" in sys.argv
+    archive = os.environ.get("BUZZLUMEN_ARCHIVE", os.path.join(ROOT, "target", "staticlib", "libbuzzlumen.a"))
+    if not os.path.exists(archive):
+        subprocess.run(["rt", "staticlib", "buzzlumen"], cwd=ROOT, check=True, stdout=sys.stderr)
+    tools.need("cadical")
+    dice = methods.Dice(SEED)
+    with tempfile.TemporaryDirectory() as folder:
+        program = build_program(folder, archive)
+        count = counter(folder)
+        print(f"{'case':<48} {'library':>14} {'twin':>14} {'ratio':>7}")
+        for case in zeroing_cases():
+            compare(count, program, case)
+        for case in evaluation_cases(folder, dice):
+            compare(count, program, case)
+        for case in building_cases(folder, dice, quick):
+            compare(count, program, case)
+        for case in checking_cases(folder, "--long" in sys.argv):
+            compare(count, program, case)
+
+
+if __name__ == "__main__":
+    main()

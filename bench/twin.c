@@ -1,0 +1,762 @@
+/* The library's twin in plain C: the same four functions by the same kind of algorithm, for comparison of speed and as
+ * a stand-in for the library while the tests are tried.
+ *
+ * Written from document 01 alone. The functions are named twin_evaluate, twin_build, twin_check and twin_judge, so
+ * that they can be linked beside the library; -DPREFIX=buzzlumen_ gives them the library's names instead.
+ * Pairs are found by filling the table from its end, each time with the largest pair that is asked for below those
+ * found; unit propagation runs over both lists in list order, assigning as it goes, until a pass assigns nothing.
+ */
+#include "buzzlumen.h"
+
+#include <string.h>
+
+#ifndef PREFIX
+#define PREFIX twin_
+#endif
+#define JOINED(prefix, name) prefix##name
+#define JOIN(prefix, name) JOINED(prefix, name)
+#define NAMED(name) JOIN(PREFIX, name)
+
+enum { BUF = 1, NOT, AND, NAND, OR, NOR, XOR, XNOR, MUX };
+enum { TRAILER = 14, MOST_NODES = 512, MOST_DELAY = 999, MOST_PAIRS = 65536, MOST_VARIABLES = 100000 };
+enum { MOST_INPUTS = 64, MOST_GATES = 448, MOST_PINS = 2048, MOST_OUTPUTS = 64 };
+
+/* A refusal, or number 0. */
+typedef struct {
+    uint32_t number;
+    uint64_t place;
+} refusal;
+
+static const refusal none = {0, 0};
+
+static refusal refuse(uint32_t number, uint64_t place)
+{
+    refusal r = {number, place};
+    return r;
+}
+
+/* The netlist file: the tables stay where they are, in the caller's bytes. */
+
+typedef struct {
+    const uint8_t *gates, *pins, *outputs;
+    uint32_t inputs, gate_count, pin_count, output_count;
+} netlist;
+
+typedef struct {
+    uint32_t kind, count, first;
+} gate;
+
+static uint32_t read16(const uint8_t *at)
+{
+    return (uint32_t)at[0] | (uint32_t)at[1] << 8;
+}
+
+static uint32_t read32(const uint8_t *at)
+{
+    return read16(at) | read16(at + 2) << 16;
+}
+
+static gate gate_at(const netlist *n, uint32_t g)
+{
+    const uint8_t *row = n->gates + 4 * (size_t)g;
+    gate it = {row[0], row[1], read16(row + 2)};
+    return it;
+}
+
+static uint32_t driver_at(const netlist *n, uint32_t pin)
+{
+    return read16(n->pins + 4 * (size_t)pin);
+}
+
+static uint32_t delay_at(const netlist *n, uint32_t pin)
+{
+    return read16(n->pins + 4 * (size_t)pin + 2);
+}
+
+static uint32_t output_at(const netlist *n, uint32_t position)
+{
+    return read16(n->outputs + 2 * (size_t)position);
+}
+
+static uint32_t nodes_of(const netlist *n)
+{
+    return n->inputs + n->gate_count;
+}
+
+static int is_simple(uint32_t kind)
+{
+    return kind <= NOR;
+}
+
+/* The controlling value c of a simple gate. */
+static uint32_t controlling(uint32_t kind)
+{
+    return kind == OR || kind == NOR;
+}
+
+/* The output k that a controlling pin forces. */
+static uint32_t forced(uint32_t kind)
+{
+    return kind == NOT || kind == NAND || kind == OR;
+}
+
+static int pins_allowed(uint32_t kind, uint32_t count)
+{
+    if (kind == BUF || kind == NOT)
+        return count == 1;
+    if (kind >= AND && kind <= NOR)
+        return count >= 2 && count <= 8;
+    if (kind == XOR || kind == XNOR)
+        return count == 2;
+    return kind == MUX && count == 3;
+}
+
+static refusal read_trailer(netlist *n, const uint8_t *data, size_t length)
+{
+    if (length < TRAILER)
+        return refuse(BUZZLUMEN_SHORT, length);
+    const uint8_t *trailer = data + (length - TRAILER);
+    uint32_t version = read16(trailer + 12);
+    if (version != 1)
+        return refuse(BUZZLUMEN_VERSION, version);
+    n->inputs = read16(trailer + 4);
+    n->gate_count = read16(trailer + 6);
+    n->pin_count = read16(trailer + 8);
+    n->output_count = read16(trailer + 10);
+    if (n->inputs < 1 || n->inputs > MOST_INPUTS)
+        return refuse(BUZZLUMEN_COUNT, 0);
+    if (n->gate_count > MOST_GATES)
+        return refuse(BUZZLUMEN_COUNT, 1);
+    if (n->pin_count > MOST_PINS)
+        return refuse(BUZZLUMEN_COUNT, 2);
+    if (n->output_count < 1 || n->output_count > MOST_OUTPUTS)
+        return refuse(BUZZLUMEN_COUNT, 3);
+    uint32_t back = read32(trailer);
+    if (back != 4 * n->gate_count + 4 * n->pin_count + 2 * n->output_count || back > length - TRAILER)
+        return refuse(BUZZLUMEN_BACK, 0);
+    n->gates = trailer - back;
+    n->pins = n->gates + 4 * n->gate_count;
+    n->outputs = n->pins + 4 * n->pin_count;
+    return none;
+}
+
+static refusal check_gates(const netlist *n)
+{
+    uint32_t sum = 0;
+    for (uint32_t g = 0; g < n->gate_count; g++) {
+        gate it = gate_at(n, g);
+        if (!pins_allowed(it.kind, it.count) || it.first != sum)
+            return refuse(BUZZLUMEN_GATE, g);
+        sum += it.count;
+    }
+    return sum == n->pin_count ? none : refuse(BUZZLUMEN_GATE, n->gate_count);
+}
+
+static refusal check_pins(const netlist *n)
+{
+    for (uint32_t g = 0; g < n->gate_count; g++) {
+        gate it = gate_at(n, g);
+        for (uint32_t p = it.first; p < it.first + it.count; p++)
+            if (driver_at(n, p) >= n->inputs + g || delay_at(n, p) > MOST_DELAY)
+                return refuse(BUZZLUMEN_PIN, p);
+    }
+    return none;
+}
+
+static refusal check_outputs(const netlist *n)
+{
+    uint32_t least = 0;
+    for (uint32_t q = 0; q < n->output_count; q++) {
+        uint32_t node = output_at(n, q);
+        if (node < least || node >= nodes_of(n))
+            return refuse(BUZZLUMEN_OUTPUT, q);
+        least = node + 1;
+    }
+    return none;
+}
+
+/* Checks 1 to 7. */
+static refusal open_netlist(netlist *n, const uint8_t *data, size_t length)
+{
+    refusal r = read_trailer(n, data, length);
+    if (r.number == 0)
+        r = check_gates(n);
+    if (r.number == 0)
+        r = check_pins(n);
+    if (r.number == 0)
+        r = check_outputs(n);
+    return r;
+}
+
+/* Settling. */
+
+static refusal check_vector(const netlist *n, const uint8_t *vector, size_t length)
+{
+    if (length != n->inputs)
+        return refuse(BUZZLUMEN_VECTOR, n->inputs);
+    for (size_t i = 0; i < length; i++)
+        if (vector[i] > 1)
+            return refuse(BUZZLUMEN_VECTOR, i);
+    return none;
+}
+
+/* A simple gate: the first controlling pin, or else the last of all. */
+static void settle_simple(const netlist *n, gate it, uint32_t node, uint8_t *values, uint32_t *times)
+{
+    uint32_t c = controlling(it.kind), k = forced(it.kind);
+    uint32_t first = UINT32_MAX, last = 0;
+    for (uint32_t p = it.first; p < it.first + it.count; p++) {
+        uint32_t driver = driver_at(n, p);
+        uint32_t ready = times[driver] + delay_at(n, p);
+        if (ready > last)
+            last = ready;
+        if (values[driver] == c && ready < first)
+            first = ready;
+    }
+    values[node] = (uint8_t)(first != UINT32_MAX ? k : 1 - k);
+    times[node] = first != UINT32_MAX ? first : last;
+}
+
+/* XOR, XNOR and MUX: the last pin of all. */
+static void settle_other(const netlist *n, gate it, uint32_t node, uint8_t *values, uint32_t *times)
+{
+    uint32_t last = 0;
+    uint32_t pin[3] = {0, 0, 0};
+    for (uint32_t i = 0; i < it.count; i++) {
+        uint32_t driver = driver_at(n, it.first + i);
+        uint32_t ready = times[driver] + delay_at(n, it.first + i);
+        pin[i] = values[driver];
+        if (ready > last)
+            last = ready;
+    }
+    values[node] = (uint8_t)(it.kind == MUX ? (pin[0] ? pin[2] : pin[1]) : pin[0] ^ pin[1] ^ (it.kind == XNOR));
+    times[node] = last;
+}
+
+/* All nodes; gives the time at which the circuit settles. */
+static uint32_t settle(const netlist *n, const uint8_t *vector, uint8_t *values, uint32_t *times)
+{
+    for (uint32_t i = 0; i < n->inputs; i++) {
+        values[i] = vector[i];
+        times[i] = 0;
+    }
+    for (uint32_t g = 0; g < n->gate_count; g++) {
+        gate it = gate_at(n, g);
+        if (is_simple(it.kind))
+            settle_simple(n, it, n->inputs + g, values, times);
+        else
+            settle_other(n, it, n->inputs + g, values, times);
+    }
+    uint32_t last = 0;
+    for (uint32_t q = 0; q < n->output_count; q++)
+        if (times[output_at(n, q)] > last)
+            last = times[output_at(n, q)];
+    return last;
+}
+
+/* Pairs. */
+
+/* What a search for pairs and the writing of a formula both need. */
+typedef struct {
+    const netlist *n;
+    uint32_t target;
+    const uint32_t *tops;
+    const uint32_t *pairs; /* rising, two numbers each */
+    size_t count;
+} lateness;
+
+static void find_tops(const netlist *n, uint32_t *tops)
+{
+    memset(tops, 0, n->inputs * sizeof *tops);
+    for (uint32_t g = 0; g < n->gate_count; g++) {
+        gate it = gate_at(n, g);
+        uint32_t top = 0;
+        for (uint32_t p = it.first; p < it.first + it.count; p++) {
+            uint32_t sum = tops[driver_at(n, p)] + delay_at(n, p);
+            if (sum > top)
+                top = sum;
+        }
+        tops[n->inputs + g] = top;
+    }
+}
+
+static uint64_t key(uint32_t node, uint32_t t)
+{
+    return (uint64_t)node << 32 | t;
+}
+
+/* The number of pairs below (node, t), by halves. */
+static size_t place_of(const uint32_t *pairs, size_t count, uint32_t node, uint32_t t)
+{
+    size_t low = 0, high = count;
+    while (low < high) {
+        size_t middle = low + (high - low) / 2;
+        if (key(pairs[2 * middle], pairs[2 * middle + 1]) < key(node, t))
+            low = middle + 1;
+        else
+            high = middle;
+    }
+    return low;
+}
+
+/* The largest time below the limit at which the node is in the table, or 0. */
+static uint32_t latest(const uint32_t *pairs, size_t count, uint32_t node, uint32_t limit)
+{
+    size_t place = place_of(pairs, count, node, limit);
+    if (place == 0 || pairs[2 * place - 2] != node)
+        return 0;
+    return pairs[2 * place - 1];
+}
+
+/* The largest time below b at which the node is asked for, by an output or by a pin of a gate above; 0 for none. */
+static uint32_t asked(const lateness *l, uint32_t node, uint32_t b)
+{
+    const netlist *n = l->n;
+    uint32_t most = 0;
+    if (l->target < b)
+        for (uint32_t q = 0; q < n->output_count; q++)
+            if (output_at(n, q) == node)
+                most = l->target;
+    uint32_t g = node < n->inputs ? 0 : node + 1 - n->inputs;
+    for (; g < n->gate_count; g++) {
+        gate it = gate_at(n, g);
+        for (uint32_t p = it.first; p < it.first + it.count; p++) {
+            if (driver_at(n, p) != node)
+                continue;
+            uint32_t delay = delay_at(n, p);
+            uint32_t s = latest(l->pairs, l->count, n->inputs + g, b + delay);
+            if (s > delay && s - delay > most)
+                most = s - delay;
+        }
+    }
+    return most;
+}
+
+/* Fill the table from its end; the number of pairs, or SIZE_MAX where there are more than it may hold. */
+static size_t find_pairs(lateness *l, uint32_t *table, size_t length)
+{
+    size_t capacity = length / 2 < MOST_PAIRS ? length / 2 : MOST_PAIRS;
+    size_t at = capacity;
+    for (uint32_t node = nodes_of(l->n); node-- > l->n->inputs;) {
+        uint32_t b = l->tops[node] + 1;
+        for (;;) {
+            l->pairs = table + 2 * at;
+            l->count = capacity - at;
+            uint32_t t = asked(l, node, b);
+            if (t == 0)
+                break;
+            if (at == 0)
+                return SIZE_MAX;
+            at--;
+            table[2 * at] = node;
+            table[2 * at + 1] = t;
+            b = t;
+        }
+    }
+    size_t count = capacity - at;
+    memmove(table, table + 2 * at, 2 * count * sizeof *table);
+    memset(table + 2 * count, 0, (length - 2 * count) * sizeof *table);
+    l->pairs = table;
+    l->count = count;
+    return count;
+}
+
+/* The formula. */
+
+typedef struct {
+    int32_t *to;
+    size_t room, numbers, clauses;
+} writer;
+
+/* Store where there is room, and count in any case. */
+static void put(writer *w, int32_t number)
+{
+    if (w->numbers < w->room)
+        w->to[w->numbers] = number;
+    w->numbers++;
+}
+
+static void end_clause(writer *w)
+{
+    put(w, 0);
+    w->clauses++;
+}
+
+static int32_t node_is(uint32_t node, uint32_t value)
+{
+    return value ? (int32_t)node + 1 : -((int32_t)node + 1);
+}
+
+static void put_three(writer *w, int32_t x, int32_t y, int32_t z)
+{
+    put(w, x);
+    put(w, y);
+    put(w, z);
+    end_clause(w);
+}
+
+static void write_simple(writer *w, const netlist *n, gate it, uint32_t node)
+{
+    uint32_t c = controlling(it.kind), k = forced(it.kind);
+    for (uint32_t p = it.first; p < it.first + it.count; p++) {
+        put(w, node_is(driver_at(n, p), 1 - c));
+        put(w, node_is(node, k));
+        end_clause(w);
+    }
+    for (uint32_t p = it.first; p < it.first + it.count; p++)
+        put(w, node_is(driver_at(n, p), c));
+    put(w, node_is(node, 1 - k));
+    end_clause(w);
+}
+
+static void write_parity(writer *w, const netlist *n, gate it, uint32_t node)
+{
+    uint32_t first = driver_at(n, it.first), second = driver_at(n, it.first + 1);
+    for (uint32_t x = 0; x < 2; x++)
+        for (uint32_t y = 0; y < 2; y++)
+            put_three(w, node_is(first, 1 - x), node_is(second, 1 - y), node_is(node, x ^ y ^ (it.kind == XNOR)));
+}
+
+static void write_mux(writer *w, const netlist *n, gate it, uint32_t node)
+{
+    int32_t s = node_is(driver_at(n, it.first), 1), a = node_is(driver_at(n, it.first + 1), 1);
+    int32_t b = node_is(driver_at(n, it.first + 2), 1), f = node_is(node, 1);
+    put_three(w, s, -a, f);
+    put_three(w, s, a, -f);
+    put_three(w, -s, -b, f);
+    put_three(w, -s, b, -f);
+}
+
+static void write_gate(writer *w, const netlist *n, uint32_t g)
+{
+    gate it = gate_at(n, g);
+    if (is_simple(it.kind))
+        write_simple(w, n, it, n->inputs + g);
+    else if (it.kind == MUX)
+        write_mux(w, n, it, n->inputs + g);
+    else
+        write_parity(w, n, it, n->inputs + g);
+}
+
+/* Put "node late at t" for a t above 0: nothing where t exceeds the top, the pair's variable otherwise. */
+static void put_late(writer *w, const lateness *l, uint32_t node, uint32_t t)
+{
+    if (t <= l->tops[node])
+        put(w, (int32_t)(nodes_of(l->n) + 1 + place_of(l->pairs, l->count, node, t)));
+}
+
+/* "-p, or some driver late at t less its delay"; left out where one is surely late. */
+static void write_some_driver(writer *w, const lateness *l, gate it, int32_t p, uint32_t t)
+{
+    const netlist *n = l->n;
+    for (uint32_t pin = it.first; pin < it.first + it.count; pin++)
+        if (t <= delay_at(n, pin))
+            return;
+    put(w, -p);
+    for (uint32_t pin = it.first; pin < it.first + it.count; pin++)
+        put_late(w, l, driver_at(n, pin), t - delay_at(n, pin));
+    end_clause(w);
+}
+
+/* For each pin: "-p, driver late, driver is not c". */
+static void write_each_driver(writer *w, const lateness *l, gate it, int32_t p, uint32_t t)
+{
+    const netlist *n = l->n;
+    uint32_t c = controlling(it.kind);
+    for (uint32_t pin = it.first; pin < it.first + it.count; pin++) {
+        if (t <= delay_at(n, pin))
+            continue;
+        put(w, -p);
+        put_late(w, l, driver_at(n, pin), t - delay_at(n, pin));
+        put(w, node_is(driver_at(n, pin), 1 - c));
+        end_clause(w);
+    }
+}
+
+static void write_formula(writer *w, const lateness *l)
+{
+    const netlist *n = l->n;
+    for (uint32_t g = 0; g < n->gate_count; g++)
+        write_gate(w, n, g);
+    for (size_t i = 0; i < l->count; i++) {
+        gate it = gate_at(n, l->pairs[2 * i] - n->inputs);
+        int32_t p = (int32_t)(nodes_of(n) + 1 + i);
+        write_some_driver(w, l, it, p, l->pairs[2 * i + 1]);
+        if (is_simple(it.kind))
+            write_each_driver(w, l, it, p, l->pairs[2 * i + 1]);
+    }
+    if (l->target == 0)
+        return;
+    for (uint32_t q = 0; q < n->output_count; q++)
+        put_late(w, l, output_at(n, q), l->target);
+    end_clause(w);
+}
+
+/* Check 10, then 9 for the formula; fills both slices whole where it is not refused. */
+static refusal build_opened(const netlist *n, uint32_t target, uint32_t *pairs, size_t pairs_length,
+                            int32_t *formula, size_t formula_length, buzzlumen_built *built)
+{
+    uint32_t tops[MOST_NODES];
+    find_tops(n, tops);
+    lateness l = {n, target, tops, pairs, 0};
+    size_t count = find_pairs(&l, pairs, pairs_length);
+    if (count == SIZE_MAX)
+        return refuse(BUZZLUMEN_PAIRS, 0);
+    writer w = {formula, formula_length, 0, 0};
+    write_formula(&w, &l);
+    if (w.numbers > formula_length)
+        return refuse(BUZZLUMEN_ROOM, w.numbers);
+    memset(formula + w.numbers, 0, (formula_length - w.numbers) * sizeof *formula);
+    built->variables = (uint32_t)(nodes_of(n) + count);
+    built->clauses = w.clauses;
+    built->numbers = w.numbers;
+    built->pairs = count;
+    return none;
+}
+
+/* Unit propagation. */
+
+enum { FREE = 0, IS_TRUE = 1, IS_FALSE = 2 };
+
+static uint32_t magnitude(int32_t literal)
+{
+    return literal < 0 ? 0u - (uint32_t)literal : (uint32_t)literal;
+}
+
+static uint8_t mark_for(int32_t literal)
+{
+    return literal > 0 ? IS_TRUE : IS_FALSE;
+}
+
+typedef enum { NOTHING_NEW, ASSIGNED, CONFLICT } outcome;
+
+/* One pass over a list of clauses, assigning as it goes; ends at the first clause that is false. */
+static outcome pass(const int32_t *list, size_t length, uint8_t *marks)
+{
+    outcome result = NOTHING_NEW;
+    int32_t unit = 0;
+    int idle = 0; /* a true literal, or two different free ones: nothing to learn */
+    for (size_t i = 0; i < length; i++) {
+        int32_t x = list[i];
+        if (x != 0) {
+            uint8_t mark = marks[magnitude(x)];
+            if (mark == FREE) {
+                idle |= unit != 0 && unit != x;
+                unit = x;
+            } else {
+                idle |= mark == mark_for(x);
+            }
+            continue;
+        }
+        if (!idle) {
+            if (unit == 0)
+                return CONFLICT;
+            marks[magnitude(unit)] = mark_for(unit);
+            result = ASSIGNED;
+        }
+        unit = 0;
+        idle = 0;
+    }
+    return result;
+}
+
+/* Whether the clause at `start` of the refutation follows from the formula and the clauses before it. */
+static int follows(const int32_t *formula, size_t formula_length, const int32_t *refutation, size_t start,
+                   uint8_t *marks)
+{
+    for (size_t i = start; refutation[i] != 0; i++) {
+        uint8_t mark = marks[magnitude(refutation[i])];
+        if (mark == mark_for(refutation[i]))
+            return 1;
+        marks[magnitude(refutation[i])] = mark_for(-refutation[i]);
+    }
+    for (;;) {
+        outcome in_formula = pass(formula, formula_length, marks);
+        if (in_formula == CONFLICT)
+            return 1;
+        outcome in_refutation = pass(refutation, start, marks);
+        if (in_refutation == CONFLICT)
+            return 1;
+        if (in_formula == NOTHING_NEW && in_refutation == NOTHING_NEW)
+            return 0;
+    }
+}
+
+/* The index of the first literal beyond the variables, or the length. */
+static size_t first_beyond(const int32_t *list, size_t length, uint32_t variables)
+{
+    size_t i = 0;
+    while (i < length && magnitude(list[i]) <= variables)
+        i++;
+    return i;
+}
+
+static refusal check_formula(uint32_t variables, const int32_t *formula, size_t length)
+{
+    if (variables > MOST_VARIABLES)
+        return refuse(BUZZLUMEN_FORMULA, 0);
+    size_t beyond = first_beyond(formula, length, variables);
+    if (beyond < length)
+        return refuse(BUZZLUMEN_FORMULA, beyond);
+    if (length > 0 && formula[length - 1] != 0)
+        return refuse(BUZZLUMEN_FORMULA, length);
+    return none;
+}
+
+/* Check 13. */
+static refusal check_last(const int32_t *refutation, size_t length)
+{
+    size_t clauses = 0;
+    int empty = 1;
+    for (size_t i = 0; i < length; i++) {
+        if (refutation[i] != 0) {
+            empty = 0;
+            continue;
+        }
+        if (empty && i + 1 < length)
+            return refuse(BUZZLUMEN_LAST, clauses);
+        if (i + 1 == length && !empty)
+            return refuse(BUZZLUMEN_LAST, clauses + 1);
+        clauses++;
+        empty = 1;
+    }
+    return none;
+}
+
+/* Check 14. */
+static refusal check_steps(uint32_t variables, const int32_t *formula, size_t formula_length,
+                           const int32_t *refutation, size_t refutation_length, uint8_t *marks)
+{
+    size_t step = 0;
+    for (size_t start = 0; start < refutation_length; step++) {
+        memset(marks, FREE, (size_t)variables + 1);
+        if (!follows(formula, formula_length, refutation, start, marks))
+            return refuse(BUZZLUMEN_STEP, step);
+        while (refutation[start] != 0)
+            start++;
+        start++;
+    }
+    return none;
+}
+
+/* Checks 12, 13, 9 for propagation, 14. */
+static refusal check_refutation(uint32_t variables, const int32_t *formula, size_t formula_length,
+                                const int32_t *refutation, size_t refutation_length,
+                                uint8_t *propagation, size_t propagation_length)
+{
+    size_t beyond = first_beyond(refutation, refutation_length, variables);
+    if (beyond < refutation_length)
+        return refuse(BUZZLUMEN_REFUTATION, beyond);
+    if (refutation_length == 0 || refutation[refutation_length - 1] != 0)
+        return refuse(BUZZLUMEN_REFUTATION, refutation_length);
+    refusal r = check_last(refutation, refutation_length);
+    if (r.number != 0)
+        return r;
+    if (propagation_length < (size_t)variables + 1)
+        return refuse(BUZZLUMEN_ROOM, (uint64_t)variables + 1);
+    return check_steps(variables, formula, formula_length, refutation, refutation_length, propagation);
+}
+
+/* Checks 8, 9 for values, 9 for times; then settles. */
+static refusal evaluate_opened(const netlist *n, const uint8_t *vector, size_t vector_length, uint8_t *values,
+                               size_t values_length, uint32_t *times, size_t times_length, uint32_t *time)
+{
+    uint32_t nodes = nodes_of(n);
+    refusal r = check_vector(n, vector, vector_length);
+    if (r.number != 0)
+        return r;
+    if (values_length < nodes || times_length < nodes)
+        return refuse(BUZZLUMEN_ROOM, nodes);
+    *time = settle(n, vector, values, times);
+    memset(values + nodes, 0, values_length - nodes);
+    memset(times + nodes, 0, (times_length - nodes) * sizeof *times);
+    return none;
+}
+
+/* The four functions. */
+
+buzzlumen_evaluated NAMED(evaluate)(const uint8_t *netlist_bytes, size_t netlist_length,
+                                    const uint8_t *vector, size_t vector_length,
+                                    uint8_t *values, size_t values_length,
+                                    uint32_t *times, size_t times_length)
+{
+    netlist n;
+    uint32_t time = 0;
+    refusal r = open_netlist(&n, netlist_bytes, netlist_length);
+    if (r.number == 0)
+        r = evaluate_opened(&n, vector, vector_length, values, values_length, times, times_length, &time);
+    if (r.number != 0) {
+        memset(values, 0, values_length);
+        memset(times, 0, times_length * sizeof *times);
+        time = 0;
+    }
+    buzzlumen_evaluated answer = {r.number, time, r.place};
+    return answer;
+}
+
+buzzlumen_built NAMED(build)(const uint8_t *netlist_bytes, size_t netlist_length,
+                             uint32_t target,
+                             uint32_t *pairs, size_t pairs_length,
+                             int32_t *formula, size_t formula_length)
+{
+    netlist n;
+    buzzlumen_built answer = {0, 0, 0, 0, 0, 0};
+    refusal r = open_netlist(&n, netlist_bytes, netlist_length);
+    if (r.number == 0)
+        r = build_opened(&n, target, pairs, pairs_length, formula, formula_length, &answer);
+    if (r.number != 0) {
+        memset(pairs, 0, pairs_length * sizeof *pairs);
+        memset(formula, 0, formula_length * sizeof *formula);
+    }
+    answer.number = r.number;
+    answer.place = r.place;
+    return answer;
+}
+
+buzzlumen_checked NAMED(check)(uint32_t variables,
+                               const int32_t *formula, size_t formula_length,
+                               const int32_t *refutation, size_t refutation_length,
+                               uint8_t *propagation, size_t propagation_length)
+{
+    refusal r = check_formula(variables, formula, formula_length);
+    if (r.number == 0)
+        r = check_refutation(variables, formula, formula_length, refutation, refutation_length,
+                             propagation, propagation_length);
+    memset(propagation, 0, propagation_length);
+    buzzlumen_checked answer = {r.number, r.place};
+    return answer;
+}
+
+buzzlumen_judged NAMED(judge)(const uint8_t *netlist_bytes, size_t netlist_length,
+                              uint32_t delay,
+                              const uint8_t *vector, size_t vector_length,
+                              const int32_t *refutation, size_t refutation_length,
+                              uint8_t *values, size_t values_length,
+                              uint32_t *times, size_t times_length,
+                              uint32_t *pairs, size_t pairs_length,
+                              int32_t *formula, size_t formula_length,
+                              uint8_t *propagation, size_t propagation_length)
+{
+    netlist n;
+    uint32_t time = 0;
+    buzzlumen_built built = {0, 0, 0, 0, 0, 0};
+    refusal r = open_netlist(&n, netlist_bytes, netlist_length);
+    if (r.number == 0)
+        r = evaluate_opened(&n, vector, vector_length, values, values_length, times, times_length, &time);
+    if (r.number == 0 && time != delay)
+        r = refuse(BUZZLUMEN_WITNESS, time);
+    if (r.number == 0)
+        r = build_opened(&n, delay + 1, pairs, pairs_length, formula, formula_length, &built);
+    if (r.number == 0)
+        r = check_refutation(built.variables, formula, built.numbers, refutation, refutation_length,
+                             propagation, propagation_length);
+    if (r.number != 0) {
+        memset(values, 0, values_length);
+        memset(times, 0, times_length * sizeof *times);
+        memset(pairs, 0, pairs_length * sizeof *pairs);
+        memset(formula, 0, formula_length * sizeof *formula);
+    }
+    memset(propagation, 0, propagation_length);
+    buzzlumen_judged answer = {r.number, r.place};
+    return answer;
+}
