@@ -532,7 +532,7 @@ def calls_of_round(dice, number):
     if number % 50 == 0:
         calls += wide_calls(dice)
     complaints = []
-    if number % 10 == 0:
+    if number % 8 == 0:
         more, complaints = peer_calls(dice)
         calls += more
     return calls, complaints
