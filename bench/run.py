@@ -3,8 +3,8 @@
 
 Builds one program of the library's archive (target/staticlib/libbuzzlumen.a), the twin and cost.c, and counts the
 instructions of a call as the difference of a run with one call more: by valgrind on x86-64, by a small plugin of qemu's
-on Arm. Prints a table of ratios and how the cost grows. `--quick` leaves out 65,536
-pairs; `--long` adds a refutation of many thousand steps, some minutes. A benchmark, not a test.
+on Arm. Prints a table of ratios and how the cost grows, in the library's instructions for each gate, pair or step.
+`--quick` leaves out 65,536 pairs and the refutation of some thousand steps, which take minutes. A benchmark, not a test.
 Assumes Debian, and the right to install what is missing.
 """
 
@@ -83,8 +83,9 @@ def evaluation_cases(folder, dice):
     for name, netlist in netlists:
         data = document.write_netlist(netlist)
         vector = bytes(methods.random_vector(dice, netlist.inputs))
-        yield (f"evaluate, {name}: {len(netlist.gates)} gates", "evaluate",
-               [write(folder, "netlist", data), write(folder, "vector", vector)], 20)
+        pins = sum(len(gate.pins) for gate in netlist.gates)
+        yield (f"evaluate, {name}: {len(netlist.gates)} gates, {pins:,} pins", "evaluate",
+               [write(folder, "netlist", data), write(folder, "vector", vector)], 20, (len(netlist.gates), "gate"))
 
 
 def building_cases(folder, dice, quick):
@@ -92,17 +93,19 @@ def building_cases(folder, dice, quick):
     for pairs in (1000, 10000) if quick else (1000, 10000, 65536):
         netlist = methods.ladders_for_pairs(dice, pairs)
         path = write(folder, "netlist", document.write_netlist(netlist))
-        yield f"build, {pairs:,} pairs", "build", [path, str(methods.LADDER_TARGET), "131072", "4000000"], 1
+        words = [path, str(methods.LADDER_TARGET), "131072", "4000000"]
+        yield f"build, {pairs:,} pairs", "build", words, 1, (pairs, "pair")
 
 
-def checking_cases(folder, long):
-    """Refutations that a solver wrote, of some hundred and some thousand steps."""
-    for clauses, variables in solver_formulas(long):
+def checking_cases(folder, quick):
+    """Refutations that a solver wrote, of some hundred to some thousand steps: pigeonhole formulas, where they grow fast."""
+    for clauses, variables in map(pigeons, (5, 6) if quick else (5, 6, 7)):
         _, steps = solvers.cadical(variables, clauses)
         flat = [literal for clause in clauses for literal in (*clause, 0)]
         proof = [literal for clause in steps for literal in (*clause, 0)]
         yield (f"check, {len(clauses):,} clauses, {len(steps):,} steps", "check",
-               [str(variables), write(folder, "formula", numbers(flat)), write(folder, "refutation", numbers(proof))], 1)
+               [str(variables), write(folder, "formula", numbers(flat)), write(folder, "refutation", numbers(proof))], 1,
+               (len(steps), "step"))
 
 
 def pigeons(holes):
@@ -114,25 +117,19 @@ def pigeons(holes):
     return clauses, (holes + 1) * holes
 
 
-def solver_formulas(long):
-    """Pigeonhole formulas, whose refutations grow fast."""
-    for holes in (5, 6, 7) if long else (5, 6):
-        yield pigeons(holes)
-
-
 def zeroing_cases():
     """A refused call, which zeroes what was lent."""
-    yield "zeroing, 2 x 1,000,000 numbers", "zero", ["1000000"], 4
+    yield "zeroing, 2 x 1,000,000 numbers", "zero", ["1000000"], 4, (2000000, "number")
 
 
 def compare(count, program, case):
     """One line of the table."""
-    name, function, arguments, calls = case
+    name, function, arguments, calls, (units, unit) = case
     ours, answer = cost(count, program, "library", function, arguments, calls)
     twins, other = cost(count, program, "twin", function, arguments, calls)
     if answer != other:
         sys.exit(f"{name}: the answers differ: {answer.strip()} and {other.strip()}")
-    print(f"{name:<48} {ours:>14,} {twins:>14,} {ours / twins:>7.2f}", flush=True)
+    print(f"{name:<48} {ours:>14,} {twins:>14,} {ours / twins:>7.2f} {ours / units:>12,.0f} a {unit}", flush=True)
 
 
 def main():
@@ -145,14 +142,14 @@ def main():
     with tempfile.TemporaryDirectory() as folder:
         program = build_program(folder, archive)
         count = counter(folder)
-        print(f"{'case':<48} {'library':>14} {'twin':>14} {'ratio':>7}")
+        print(f"{'case':<48} {'library':>14} {'twin':>14} {'ratio':>7} {'growth':>12}")
         for case in zeroing_cases():
             compare(count, program, case)
         for case in evaluation_cases(folder, dice):
             compare(count, program, case)
         for case in building_cases(folder, dice, quick):
             compare(count, program, case)
-        for case in checking_cases(folder, "--long" in sys.argv):
+        for case in checking_cases(folder, quick):
             compare(count, program, case)
 
 

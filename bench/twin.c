@@ -530,32 +530,36 @@ static uint8_t mark_for(int32_t literal)
 
 typedef enum { NOTHING_NEW, ASSIGNED, CONFLICT } outcome;
 
-/* One pass over a list of clauses, assigning as it goes; ends at the first clause that is false. */
+/* One pass over a list of clauses, assigning as it goes; ends at the first clause that is false. A clause is left at a
+ * true literal, or at a second free one: it has nothing to say. The list ends in 0. */
 static outcome pass(const int32_t *list, size_t length, uint8_t *marks)
 {
     outcome result = NOTHING_NEW;
-    int32_t unit = 0;
-    int idle = 0; /* a true literal, or two different free ones: nothing to learn */
     for (size_t i = 0; i < length; i++) {
-        int32_t x = list[i];
-        if (x != 0) {
+        int32_t unit = 0;
+        int idle = 0;
+        for (int32_t x; (x = list[i]) != 0; i++) {
             uint8_t mark = marks[magnitude(x)];
             if (mark == FREE) {
-                idle |= unit != 0 && unit != x;
-                unit = x;
-            } else {
-                idle |= mark == mark_for(x);
+                if (unit == 0)
+                    unit = x;
+                else if (unit != x) {
+                    idle = 1;
+                    break;
+                }
+            } else if (mark == mark_for(x)) {
+                idle = 1;
+                break;
             }
+        }
+        while (list[i] != 0)
+            i++;
+        if (idle)
             continue;
-        }
-        if (!idle) {
-            if (unit == 0)
-                return CONFLICT;
-            marks[magnitude(unit)] = mark_for(unit);
-            result = ASSIGNED;
-        }
-        unit = 0;
-        idle = 0;
+        if (unit == 0)
+            return CONFLICT;
+        marks[magnitude(unit)] = mark_for(unit);
+        result = ASSIGNED;
     }
     return result;
 }

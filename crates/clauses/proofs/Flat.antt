@@ -4,7 +4,7 @@ use mathlib.Core.Bool.{Bool, true, false, cond}
 use mathlib.Core.List.{List, [], _∷_, _++_, map, append-nil, append-assoc}
 use Prim.Native.Nat.{ℕ, zero, suc}
 use lib.Dec.{T, ltb}
-use lib.IntN.{ℤ, pos, negsuc, negℤ}
+use lib.IntN.{ℤ, pos, negℤ}
 use Rattle.basics.specs.Lists.{all}
 use Rattle.basics.proofs.Truth.{and-left, and-right}
 use Rattle.clauses.specs.Clauses.{Literal, numberOf, flat, clausesFrom, clausesOf}

@@ -1,7 +1,7 @@
 // Signed 32-bit numbers of a clause list, read and written as codes: the only code that touches a sign.
 // Assumes nothing.
 ghost use mathlib.Core.Path.{_≡_};
-ghost use Prim.Native.Nat.{_+_, _<_};
+ghost use Prim.Native.Nat.{_+_, _/_, _<_};
 ghost use lib.IntN.{pos};
 ghost use lib.ListN.{length, getD, set};
 ghost use Rattle.clauses.specs.Codes.{codeOf, decoded, signedOf};
@@ -16,6 +16,26 @@ pub fn code_of(number: i32) -> usize
     } else {
         (number as usize) * 2
     }
+}
+
+// The variable of a number, its magnitude: half the code, in fewer instructions where the code is not needed.
+pub fn variable_of(number: i32) -> usize
+    ensures { λ r. ⌜ (r ≡ codeOf number / 2) × (r < 4294967296) ⌝ }
+{
+    if number < 0 {
+        let rest = -1 - number;
+        (rest as usize) + 1
+    } else {
+        number as usize
+    }
+}
+
+// The variable of the number at a place.
+pub fn variable_at(list: &[i32], at: usize) -> usize
+    requires { ⌜ at < length (now list) ⌝ }
+    ensures { λ r. ⌜ (r ≡ codeOf (getD (now (list .entry)) at (pos 0)) / 2) × (r < 4294967296) ⌝ }
+{
+    variable_of(list[at])
 }
 
 // The code of the number at a place.

@@ -1,19 +1,8 @@
 -- Every check has an answer, and it is computed; so the worked examples are one computation over their rows, read as
 -- the order-free promise. Assumes nothing.
-use mathlib.Core.Path.{_≡_, refl, sym, subst}
+use mathlib.Core.Path.{_≡_, refl, subst}
 use mathlib.Core.Bool.{Bool, _&&_}
-use mathlib.Core.List.{
-  List,
-  [],
-  _∷_,
-  map,
-  List·Memᴰ,
-  List·Memᴰ·head,
-  List·Memᴰ·tail,
-  List·Memᴰ·not-nil,
-  head-eq-of-cons-eq,
-  tail-eq-of-cons-eq,
-}
+use mathlib.Core.List.{List, map, List·Memᴰ}
 use Prim.Native.Nat.{ℕ, suc}
 use lib.Dec.{T, ltb, ltb→lt}
 use lib.IntN.{ℤ}

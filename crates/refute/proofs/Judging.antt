@@ -16,7 +16,7 @@ use mathlib.Core.List.{
   append-nil,
   append-assoc,
 }
-use mathlib.Core.Logic.{_⊎_, ⊎-elim}
+use mathlib.Core.Logic.{⊎-elim}
 use Prim.Native.Nat.{ℕ, zero, suc, _+_, _-_, _<_, _≤_}
 use native.Mathlib.Omega.{arith}
 use native.Mathlib.Nat.{add-zero, zero-add}
@@ -62,7 +62,7 @@ use Rattle.refute.specs.Rows.{
 use Rattle.refute.specs.declared.Checked.{Checked}
 use Rattle.refute.specs.declared.Checked.the-variants.{Passes, Refused}
 use Rattle.refute.proofs.Agree.{Small, verdict-is}
-use Rattle.refute.proofs.Walking.{part-reads, next-clause}
+use Rattle.refute.proofs.Walking.{ended-at, part-reads, next-clause}
 
 -- ---- from clause to clause
 
@@ -79,6 +79,7 @@ onward-next n (stops i) = let e : n + suc i ≡ n + 1 + i = omega arith in ap st
 pub record Judging (room : ℕ) (formula refutation : List ℤ) (at number : ℕ) : Type 0 where
   pub upto : at ≤ length refutation
   pub few : number ≤ at
+  pub ends : T (ended (take at refutation))
   pub whole : (zs : List ℤ) →
       clausesOf (take at refutation ++ zs) ≡ clausesOf (take at refutation) ++ clausesOf zs
   pub left : onward number
@@ -86,11 +87,12 @@ pub record Judging (room : ℕ) (formula refutation : List ℤ) (at number : ℕ
       ≡ verdict room (clausesOf formula) (clausesOf refutation)
 
 pub judging-starts : (room : ℕ) (formula refutation : List ℤ) → Judging room formula refutation 0 0
-unfolding clausesFrom
+unfolding clausesFrom ended
 judging-starts room formula refutation =
     record {
       upto = omega arith;
       few = omega arith;
+      ends = tt;
       whole = λ zs. refl;
       left =
           go (verdict room (clausesOf formula ++ []) (clausesOf refutation))
@@ -170,7 +172,7 @@ module _ {room : ℕ} {formula refutation : List ℤ} {at number : ℕ} (b : Jud
         ap (λ (t : List ℤ). clausesOf (t ++ zs)) taken
         ∙ ap clausesOf (append-assoc (take at refutation) (take (suc (to - at)) (drop at refutation)) zs)
         ∙ b .whole (take (suc (to - at)) (drop at refutation) ++ zs)
-        ∙ ap (λ (cs : List (List Literal)). clausesOf (take at refutation) ++ cs) (part-reads z h zs)
+        ∙ ap (λ (cs : List (List Literal)). clausesOf (take at refutation) ++ cs) (part-reads z h [] zs)
 
     grown : clausesOf (take (to + 1) refutation) ≡ clausesOf (take at refutation) ++ (literalsOf part ∷ [])
     unfolding clausesFrom
@@ -184,6 +186,7 @@ module _ {room : ℕ} {formula refutation : List ℤ} {at number : ℕ} (b : Jud
         record {
           upto = omega arith;
           few = omega (arith, b .few, z .above);
+          ends = ended-at refutation to h (z .there h);
           whole = λ zs.
               reads zs
               ∙ sym
@@ -230,13 +233,15 @@ clear-long room e = ap length e ∙ length-replicate {A = ℕ} room 0
 
 -- what the test of one clause asks for
 pub ready : {formula : List ℤ} {marks : List ℕ} (refutation : List ℤ) (from to room : ℕ) → marks ≡ replicate room 0 →
-    Within room formula → Within room refutation →
+    Within room formula → T (ended formula) → Within room refutation → T (ended (take from refutation)) →
     Ready formula (take from refutation) (take (to - from) (drop from refutation)) marks
-ready {formula} {marks} refutation from to room z f r =
+ready {formula} {marks} refutation from to room z f g r s =
     let e : room ≡ length marks = sym (clear-long room z) in
     record {
       clear = z ∙ ap (λ (n : ℕ). replicate n 0) e;
       formula-fits = subst (λ (n : ℕ). Within n formula) e f;
+      formula-ends = g;
+      earlier-ends = s;
       earlier-fits = subst (λ (n : ℕ). Within n (take from refutation)) e (within-take room from refutation r);
       clause-fits =
           subst (λ (n : ℕ). Within n (take (to - from) (drop from refutation))) e
@@ -448,6 +453,7 @@ lent-clear {variables} {formula} {refutation} {n} slice e w f =
     record {
       clear = part-clear (variables + 1) n slice e;
       formula-fits = subst (λ (m : ℕ). Within m formula) k (formula-within w);
+      formula-ends = w .last;
       refutation-fits = subst (λ (m : ℕ). Within m refutation) k (f .within);
     }
   where

@@ -4,6 +4,7 @@ pub mod Unique
 pub mod Marks
 pub mod Agree
 pub mod Reading
+pub mod Scanning
 pub mod Passing
 pub mod Walking
 pub mod Judging

@@ -8,31 +8,27 @@ use mathlib.Core.List.{
   _∷_,
   _++_,
   List·Memᴰ,
-  List·Memᴰ·head,
   List·Memᴰ·not-nil,
   List·Memᴰ·append-cases,
   List·Memᴰ·eq-of-singleton,
   append-nil,
 }
-use mathlib.Core.Logic.{_⊎_, ⊎-elim}
-use Prim.Native.Nat.{ℕ, zero, suc, _+_, _/_, _%_, _<_, _≤_}
+use mathlib.Core.Logic.{⊎-elim}
+use Prim.Native.Nat.{ℕ, zero, suc, _+_, _-_, _/_, _%_, _<_, _≤_}
 use native.Mathlib.Omega.{arith}
 use lib.Dec.{T}
 use lib.IntN.{ℤ, pos}
-use lib.ListN.{length, getD, set, drop, replicate, drop-of-length-le}
-use Rattle.basics.specs.Lists.{all, keep}
-use Rattle.basics.proofs.Lists.{keep-passes, keep-within}
+use lib.ListN.{length, getD, set, take, drop, replicate, drop-of-length-le}
+use Rattle.basics.specs.Lists.{any}
 use Rattle.clauses.specs.Clauses.{Literal, clausesFrom, clausesOf}
 use Rattle.clauses.specs.Codes.{codeOf, literalCode}
 use Rattle.refute.specs.Passes.{
-  same,
-  isFree,
+  isTrue,
   assign,
   Said,
   refuted,
   quiet,
   forces,
-  sayFree,
   say,
   Pass,
   hit,
@@ -45,137 +41,79 @@ use Rattle.refute.specs.Passes.{
   assert,
   follows,
 }
-use Rattle.refute.specs.Reading.{literalOf, listAt, looked, outcome, Within, Ready}
+use Rattle.refute.specs.Reading.{literalOf, literalsOf, listAt, looked, outcome, Within, NextZero, Ready}
+use Rattle.refute.specs.Rows.{ended}
 use Rattle.refute.specs.declared.Scan.{Scan}
 use Rattle.refute.proofs.Marks.{assign-length, natOf, zeros, zeros-bound, zeros-assign}
-use Rattle.refute.proofs.Reading.{
-  coded,
-  next-number,
-  clause-grows,
-  clause-ends,
-  frees,
-  firstCode,
-  scanOf,
-  scan-more,
-  code-parts,
-}
-
--- ---- what the scan of a whole clause says
-
--- a clause in which just one literal is free
-pub record Lone (marks : List ℕ) (c : List Literal) : Type 0 where
-  pub one : Literal
-  pub member : List·Memᴰ one c
-  pub free : T (isFree marks one)
-  pub forced : say marks c ≡ forces one
-  pub code : scanOf marks c .unit ≡ literalCode one
-
-module _ (marks : List ℕ) (c : List Literal) where
-  by-free : scanOf marks c .satisfied ≡ false → say marks c ≡ sayFree (keep (isFree marks) c)
-  unfolding say scanOf
-  by-free e = ap (λ (b : Bool). cond b quiet (sayFree (keep (isFree marks) c))) e
-
-  pub said-true : scanOf marks c .satisfied ≡ true → say marks c ≡ quiet
-  unfolding say scanOf
-  said-true e = ap (λ (b : Bool). cond b quiet (sayFree (keep (isFree marks) c))) e
-
-  pub said-none : scanOf marks c .satisfied ≡ false → scanOf marks c .free ≡ 0 → say marks c ≡ refuted
-  unfolding scanOf
-  said-none e f = by-free e ∙ go (keep (isFree marks) c) f
-    where
-      go : (us : List Literal) → frees us ≡ 0 → sayFree us ≡ refuted
-      go [] f = refl
-      go (u ∷ us) f = pick (all (same u) us) f
-        where
-          pick : (b : Bool) → cond {A = ℕ} b 1 2 ≡ 0 → cond b (forces u) quiet ≡ refuted
-          pick true f = absurd (omega arith)
-          pick false f = absurd (omega arith)
-
-  pub said-more : scanOf marks c .satisfied ≡ false → (scanOf marks c .free ≡ 0 → ⊥) →
-      (scanOf marks c .free ≡ 1 → ⊥) → say marks c ≡ quiet
-  unfolding scanOf
-  said-more e n o = by-free e ∙ go (keep (isFree marks) c) n o
-    where
-      go : (us : List Literal) → (frees us ≡ 0 → ⊥) → (frees us ≡ 1 → ⊥) → sayFree us ≡ quiet
-      go [] n o = absurd (n refl)
-      go (u ∷ us) n o = pick (all (same u) us) o
-        where
-          pick : (b : Bool) → (cond {A = ℕ} b 1 2 ≡ 1 → ⊥) → cond b (forces u) quiet ≡ quiet
-          pick true o = absurd (o refl)
-          pick false o = refl
-
-  pub said-one : scanOf marks c .satisfied ≡ false → scanOf marks c .free ≡ 1 → Lone marks c
-  unfolding scanOf
-  said-one e f = go (keep (isFree marks) c) refl (by-free e) f
-    where
-      go : (us : List Literal) → keep (isFree marks) c ≡ us → say marks c ≡ sayFree us → frees us ≡ 1 → Lone marks c
-      go [] q e f = absurd (omega arith)
-      go (u ∷ us) q e f = pick (all (same u) us) refl f
-        where
-          here : List·Memᴰ u (keep (isFree marks) c)
-          here = subst (λ (x : List Literal). List·Memᴰ u x) (sym q) (List·Memᴰ·head refl)
-
-          pick : (b : Bool) → all (same u) us ≡ b → cond {A = ℕ} b 1 2 ≡ 1 → Lone marks c
-          pick false g f = absurd (omega arith)
-          pick true g f =
-              record {
-                one = u;
-                member = keep-within (isFree marks) c u here;
-                free = keep-passes (isFree marks) c u here;
-                forced = e ∙ ap (λ (b : Bool). cond b (forces u) quiet) g;
-                code = ap firstCode q;
-              }
+use Rattle.refute.proofs.Reading.{coded, next-number, clause-grows, clause-ends}
+use Rattle.refute.proofs.Scanning.{scanOf, code-parts, Lone, Spoken, spoken-whole, silent, heard}
+use Rattle.refute.proofs.Walking.{one-after, zero-there, rest-of-clause}
 
 -- ---- within a clause
 
--- the literals read so far, what they say, and what is left
+-- the literals read so far, none of them true, what they say, and what is left
 pub record Begun (list : List ℤ) (marks : List ℕ) (i : ℕ) (scan : Scan) (j : ℕ) : Type 0 where
   pub above : i ≤ j
-  pub upto : j ≤ length list
+  pub within : j < length list
   pub read : List Literal
   pub fits : (l : Literal) → List·Memᴰ l read → l .1 < length marks
+  pub untrue : any (isTrue marks) read ≡ false
   pub says : scan ≡ scanOf marks read
   pub left : clausesFrom read (drop j list) ≡ clausesOf (drop i list)
 
-pub begun-starts : (list : List ℤ) (marks : List ℕ) (i : ℕ) → i ≤ length list →
-    Begun list marks i (record { satisfied = false; free = 0; unit = 0 }) i
+pub begun-starts : (list : List ℤ) (marks : List ℕ) (i : ℕ) → i < length list →
+    Begun list marks i (record { free = 0; unit = 0 }) i
 unfolding scanOf
 begun-starts list marks i h =
     record {
       above = omega arith;
-      upto = h;
+      within = h;
       read = [];
       fits = λ l m. absurd (List·Memᴰ·not-nil m);
+      untrue = refl;
       says = refl;
       left = refl;
     }
 
-pub begun-more : {list : List ℤ} {marks : List ℕ} {i : ℕ} {scan : Scan} {j : ℕ} (x : ℕ) (after : Scan) →
-    Begun list marks i scan j → j < length list → x ≡ codeOf (getD list j (pos 0)) → (x ≡ 0 → ⊥) →
-    x / 2 < length marks → after ≡ looked marks scan x → Begun list marks i after (j + 1)
-begun-more {list} {marks} {i} {scan} {j} x after b h e n w q =
-    let z = getD list j (pos 0) in
-    let k = coded z x e in
-    record {
-      above = omega (arith, b .above);
-      upto = omega arith;
-      read = b .read ++ (literalOf z ∷ []);
-      fits = λ l m.
-          ⊎-elim (λ p. b .fits l p)
-          (λ p.
-          subst (λ (y : Literal). y .1 < length marks) (sym (List·Memᴰ·eq-of-singleton p))
-          (subst (λ (v : ℕ). v < length marks) (k .variable) w))
-          (List·Memᴰ·append-cases (b .read) m);
-      says =
-          q
-          ∙ ap₂ (λ (s : Scan) (y : ℕ). looked marks s y) (b .says) (k .is)
-          ∙ scan-more marks (b .read) (literalOf z);
-      left =
-          sym
-          (ap (clausesFrom (b .read)) (next-number list j h)
-          ∙ clause-grows (b .read) z (drop (j + 1) list) (λ y. n (e ∙ y)))
-          ∙ b .left;
-    }
+module _ {list : List ℤ} {marks : List ℕ} {i : ℕ} {scan : Scan} {j : ℕ} (b : Begun list marks i scan j)
+    (n : codeOf (getD list j (pos 0)) ≡ 0 → ⊥) {after : Scan}
+    (q : after ≡ looked marks scan (codeOf (getD list j (pos 0)))) where
+  abbrev literal : Literal
+  literal = literalOf (getD list j (pos 0))
+
+  looks : after ≡ looked marks (scanOf marks (b .read)) (literalCode literal)
+  looks =
+      q
+      ∙ ap₂ (λ (s : Scan) (y : ℕ). looked marks s y) (b .says)
+      (coded (getD list j (pos 0)) (codeOf (getD list j (pos 0))) refl .is)
+
+  grows : clausesFrom (b .read ++ (literal ∷ [])) (drop (j + 1) list) ≡ clausesOf (drop i list)
+  grows =
+      sym
+      (ap (clausesFrom (b .read)) (next-number list j (b .within))
+      ∙ clause-grows (b .read) (getD list j (pos 0)) (drop (j + 1) list) n)
+      ∙ b .left
+
+  -- one literal more, and there may be more to say
+  pub begun-more : T (ended list) → codeOf (getD list j (pos 0)) / 2 < length marks → (after .free ≡ 2 → ⊥) →
+      Begun list marks i after (j + 1)
+  begun-more t w m =
+      let h = heard marks (b .read) literal looks m (b .untrue) in
+      record {
+        above = omega (arith, b .above);
+        within = one-after list j t (b .within) n;
+        read = b .read ++ (literal ∷ []);
+        fits = λ l p.
+            ⊎-elim (λ o. b .fits l o)
+            (λ o.
+            subst (λ (y : Literal). y .1 < length marks) (sym (List·Memᴰ·eq-of-singleton o))
+            (subst (λ (v : ℕ). v < length marks)
+            (coded (getD list j (pos 0)) (codeOf (getD list j (pos 0))) refl .variable) w))
+            (List·Memᴰ·append-cases (b .read) p);
+        untrue = h .0;
+        says = h .1;
+        left = grows;
+      }
 
 -- ---- within a list
 
@@ -193,62 +131,71 @@ visiting-starts list marks moved =
     record { upto = omega arith; long = refl; fewer = omega arith; left = λ after. refl }
 
 -- a whole clause was read, from i to its 0 at j
-pub record Closed (list : List ℤ) (before : List ℕ) (moved₀ : Bool) (marks : List ℕ) (moved : Bool) (scan : Scan)
-    (j : ℕ) : Type 0 where
+pub record Closed (list : List ℤ) (before : List ℕ) (moved₀ : Bool) (marks : List ℕ) (moved : Bool) (i : ℕ)
+    (scan : Scan) (j : ℕ) : Type 0 where
+  pub above : i ≤ j
   pub within : j < length list
   pub long : length marks ≡ length before
   pub fewer : zeros marks + natOf moved ≤ zeros before + natOf moved₀
   pub read : List Literal
-  pub fits : (l : Literal) → List·Memᴰ l read → l .1 < length marks
-  pub says : scan ≡ scanOf marks read
+  pub spoken : Spoken marks scan read
   pub left : (after : List (List Literal)) →
       pass marks moved (read ∷ (clausesOf (drop (j + 1) list) ++ after)) ≡ pass before moved₀ (clausesOf list ++ after)
 
-pub closes : {list : List ℤ} {before : List ℕ} {moved₀ : Bool} {marks : List ℕ} {moved : Bool} {i : ℕ} {scan : Scan}
-    {j : ℕ} (x : ℕ) → Visiting list before moved₀ marks moved i → Begun list marks i scan j → j < length list →
-    x ≡ codeOf (getD list j (pos 0)) → x ≡ 0 → Closed list before moved₀ marks moved scan j
-closes {list} {before} {moved₀} {marks} {moved} {i} {scan} {j} x v b h e z =
-    record {
-      within = h;
-      long = v .long;
-      fewer = v .fewer;
-      read = b .read;
-      fits = b .fits;
-      says = b .says;
-      left = λ after.
-          ap (λ (cs : List (List Literal)). pass marks moved (cs ++ after))
-          (sym
-          (ap (clausesFrom (b .read)) (next-number list j h)
-          ∙ clause-ends (b .read) (getD list j (pos 0)) (drop (j + 1) list) (sym e ∙ z))
-          ∙ b .left)
-          ∙ v .left after;
-    }
+module _ {list : List ℤ} {before : List ℕ} {moved₀ : Bool} {marks : List ℕ} {moved : Bool} {i : ℕ}
+    (v : Visiting list before moved₀ marks moved i) {scan : Scan} {j : ℕ} (b : Begun list marks i scan j) where
+  -- its literals were read one by one
+  pub closes : codeOf (getD list j (pos 0)) ≡ 0 → Closed list before moved₀ marks moved i scan j
+  closes z =
+      record {
+        above = b .above;
+        within = b .within;
+        long = v .long;
+        fewer = v .fewer;
+        read = b .read;
+        spoken =
+            subst (λ (s : Scan). Spoken marks s (b .read)) (sym (b .says))
+            (spoken-whole marks (b .read) (b .fits) (b .untrue));
+        left = λ after.
+            ap (λ (cs : List (List Literal)). pass marks moved (cs ++ after))
+            (sym
+            (ap (clausesFrom (b .read)) (next-number list j (b .within))
+            ∙ clause-ends (b .read) (getD list j (pos 0)) (drop (j + 1) list) z)
+            ∙ b .left)
+            ∙ v .left after;
+      }
 
--- what its scan says of it
-module _ {list : List ℤ} {before : List ℕ} {moved₀ : Bool} {marks : List ℕ} {moved : Bool} {scan : Scan} {j : ℕ}
-    (k : Closed list before moved₀ marks moved scan j) where
-  pub closed-true : scan .satisfied ≡ true → say marks (k .read) ≡ quiet
-  closed-true e = said-true marks (k .read) (sym (ap (λ (s : Scan). s .satisfied) (k .says)) ∙ e)
-
-  pub closed-none : scan .satisfied ≡ false → scan .free ≡ 0 → say marks (k .read) ≡ refuted
-  closed-none e n =
-      said-none marks (k .read) (sym (ap (λ (s : Scan). s .satisfied) (k .says)) ∙ e)
-      (sym (ap (λ (s : Scan). s .free) (k .says)) ∙ n)
-
-  pub closed-more : scan .satisfied ≡ false → (scan .free ≡ 0 → ⊥) → (scan .free ≡ 1 → ⊥) →
-      say marks (k .read) ≡ quiet
-  closed-more e n o =
-      said-more marks (k .read) (sym (ap (λ (s : Scan). s .satisfied) (k .says)) ∙ e)
-      (λ q. n (ap (λ (s : Scan). s .free) (k .says) ∙ q)) (λ q. o (ap (λ (s : Scan). s .free) (k .says) ∙ q))
-
-  pub closed-one : scan .satisfied ≡ false → scan .free ≡ 1 → Lone marks (k .read)
-  closed-one e n =
-      said-one marks (k .read) (sym (ap (λ (s : Scan). s .satisfied) (k .says)) ∙ e)
-      (sym (ap (λ (s : Scan). s .free) (k .says)) ∙ n)
+  -- it was left at a literal after which there was nothing to say
+  pub closes-early : {last : Scan} {to : ℕ} → T (ended list) → (codeOf (getD list j (pos 0)) ≡ 0 → ⊥) →
+      last ≡ looked marks scan (codeOf (getD list j (pos 0))) → last .free ≡ 2 → NextZero list (j + 1) to →
+      Closed list before moved₀ marks moved i last to
+  closes-early {last} {to} t n q f z =
+      let w : to < length list = zero-there t (one-after list j t (b .within) n) z in
+      record {
+        above = omega (arith, b .above, z .above);
+        within = w;
+        long = v .long;
+        fewer = v .fewer;
+        read =
+            b .read ++ (literalOf (getD list j (pos 0)) ∷ [])
+            ++ literalsOf (take (to - (j + 1)) (drop (j + 1) list));
+        spoken =
+            record {
+              none = λ o. absurd (omega arith);
+              lone = λ o. absurd (omega arith);
+              more = λ _ _.
+                  silent marks (b .read) (literalOf (getD list j (pos 0))) (looks b n q) f
+                  (literalsOf (take (to - (j + 1)) (drop (j + 1) list)));
+            };
+        left = λ after.
+            ap (λ (cs : List (List Literal)). pass marks moved (cs ++ after))
+            (sym (rest-of-clause z w (b .read ++ (literalOf (getD list j (pos 0)) ∷ []))) ∙ grows b n q)
+            ∙ v .left after;
+      }
 
 -- it changes nothing
-pub visiting-quiet : {list : List ℤ} {before : List ℕ} {moved₀ : Bool} {marks : List ℕ} {moved : Bool} {scan : Scan}
-    {j : ℕ} (k : Closed list before moved₀ marks moved scan j) → say marks (k .read) ≡ quiet →
+pub visiting-quiet : {list : List ℤ} {before : List ℕ} {moved₀ : Bool} {marks : List ℕ} {moved : Bool} {i : ℕ}
+    {scan : Scan} {j : ℕ} (k : Closed list before moved₀ marks moved i scan j) → say marks (k .read) ≡ quiet →
     Visiting list before moved₀ marks moved (j + 1)
 unfolding pass
 visiting-quiet {list} {marks = marks} {moved} {j = j} k q =
@@ -270,21 +217,20 @@ visiting-quiet {list} {marks = marks} {moved} {j = j} k q =
     }
 
 -- its one free literal becomes true
-pub visiting-unit : {list : List ℤ} {before : List ℕ} {moved₀ : Bool} {marks : List ℕ} {moved : Bool} {scan : Scan}
-    {j : ℕ} (k : Closed list before moved₀ marks moved scan j) → Lone marks (k .read) →
+pub visiting-unit : {list : List ℤ} {before : List ℕ} {moved₀ : Bool} {marks : List ℕ} {moved : Bool} {i : ℕ}
+    {scan : Scan} {j : ℕ} (k : Closed list before moved₀ marks moved i scan j) → Lone marks scan (k .read) →
     Visiting list before moved₀ (set marks (scan .unit / 2) (scan .unit % 2 + 1)) true (j + 1)
 unfolding pass assign
-visiting-unit {list} {before} {moved₀} {marks} {moved} {scan} {j} k o =
+visiting-unit {list} {before} {moved₀} {marks} {moved} {scan = scan} {j} k o =
     let p = code-parts (o .one) in
-    let u : scan .unit ≡ literalCode (o .one) = ap (λ (s : Scan). s .unit) (k .says) ∙ o .code in
     let e : set marks (scan .unit / 2) (scan .unit % 2 + 1) ≡ assign marks (o .one) =
-    ap (λ (y : ℕ). set marks (y / 2) (y % 2 + 1)) u ∙ ap₂ (set marks) (p .0) (p .1) in
+    ap (λ (y : ℕ). set marks (y / 2) (y % 2 + 1)) (o .code) ∙ ap₂ (set marks) (p .0) (p .1) in
     subst (λ (m : List ℕ). Visiting list before moved₀ m true (j + 1)) (sym e)
     (record {
       upto = omega (arith, k .within);
       long = assign-length marks (o .one) ∙ k .long;
       fewer =
-          omega (arith, zeros-assign marks (o .one) (k .fits (o .one) (o .member)) (o .free), k .fewer);
+          omega (arith, zeros-assign marks (o .one) (o .small) (o .free), k .fewer);
       left = λ after.
           sym
           (ap
@@ -299,16 +245,13 @@ visiting-unit {list} {before} {moved₀} {marks} {moved} {scan} {j} k o =
     })
 
 -- the place of the mark
-pub unit-within : {list : List ℤ} {before : List ℕ} {moved₀ : Bool} {marks : List ℕ} {moved : Bool} {scan : Scan}
-    {j : ℕ} (k : Closed list before moved₀ marks moved scan j) → Lone marks (k .read) → scan .unit / 2 < length marks
-unit-within {marks = marks} {scan = scan} k o =
-    let u : scan .unit ≡ literalCode (o .one) = ap (λ (s : Scan). s .unit) (k .says) ∙ o .code in
-    subst (λ (v : ℕ). v < length marks) (sym (ap (λ (y : ℕ). y / 2) u ∙ code-parts (o .one) .0))
-    (k .fits (o .one) (o .member))
+pub unit-within : {marks : List ℕ} {scan : Scan} {c : List Literal} → Lone marks scan c → scan .unit / 2 < length marks
+unit-within {marks} o =
+    subst (λ (v : ℕ). v < length marks) (sym (ap (λ (y : ℕ). y / 2) (o .code) ∙ code-parts (o .one) .0)) (o .small)
 
 -- it is false
-pub visiting-hit : {list : List ℤ} {before : List ℕ} {moved₀ : Bool} {marks : List ℕ} {moved : Bool} {scan : Scan}
-    {j : ℕ} (k : Closed list before moved₀ marks moved scan j) → say marks (k .read) ≡ refuted →
+pub visiting-hit : {list : List ℤ} {before : List ℕ} {moved₀ : Bool} {marks : List ℕ} {moved : Bool} {i : ℕ}
+    {scan : Scan} {j : ℕ} (k : Closed list before moved₀ marks moved i scan j) → say marks (k .read) ≡ refuted →
     (after : List (List Literal)) → pass before moved₀ (clausesOf list ++ after) ≡ hit
 unfolding pass
 visiting-hit {list} {marks = marks} {moved} {j = j} k q after =
@@ -321,24 +264,6 @@ visiting-hit {list} {marks = marks} {moved} {j = j} k q after =
       | forces l ↦ pass (assign marks l) true (clausesOf (drop (j + 1) list) ++ after)
     ])
     q
-
--- the list has ended within a clause that has no 0
-pub visiting-out : {list : List ℤ} {before : List ℕ} {moved₀ : Bool} {marks : List ℕ} {moved : Bool} {i : ℕ}
-    {scan : Scan} {j : ℕ} → Visiting list before moved₀ marks moved i → Begun list marks i scan j → length list ≤ j →
-    Visiting list before moved₀ marks moved j
-unfolding clausesFrom
-visiting-out {list} {marks = marks} {moved} {i} {scan} {j} v b h =
-    record {
-      upto = b .upto;
-      long = v .long;
-      fewer = v .fewer;
-      left = λ after.
-          ap (λ (cs : List (List Literal)). pass marks moved (cs ++ after))
-          (ap (clausesFrom []) (drop-of-length-le list {i = j} h)
-          ∙ sym (ap (clausesFrom (b .read)) (drop-of-length-le list {i = j} h))
-          ∙ b .left)
-          ∙ v .left after;
-    }
 
 -- ---- within a pass
 
@@ -525,8 +450,13 @@ follows-passes marks formula earlier c after r answer z e f w =
     (e ∙ ap (λ (b : Bool). outcome b after) f)
     ∙ w)
 
--- the numbers of either list have marks
+-- the numbers of either list have marks, and either list ends in 0
 pub stored-fits : {formula earlier clause : List ℤ} {marks : List ℕ} (which : ℕ) → Ready formula earlier clause marks →
     Within (length marks) (listAt formula earlier which)
 stored-fits zero r = r .formula-fits
 stored-fits (suc n) r = r .earlier-fits
+
+pub stored-ends : {formula earlier clause : List ℤ} {marks : List ℕ} (which : ℕ) → Ready formula earlier clause marks →
+    T (ended (listAt formula earlier which))
+stored-ends zero r = r .formula-ends
+stored-ends (suc n) r = r .earlier-ends

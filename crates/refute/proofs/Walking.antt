@@ -7,10 +7,10 @@ use Prim.Native.Nat.{ℕ, zero, suc, _+_, _-_, _/_, _<_, _≤_}
 use native.Mathlib.Omega.{arith}
 use native.Mathlib.Nat.{le-of-suc-le-suc, not-suc-le-zero, zero-add}
 use native.Mathlib.Decide.{decLt}
-use lib.Dec.{ltb, eqb}
+use lib.Dec.{T, ltb, eqb, eqb→eq}
 use lib.IntN.{ℤ, pos}
 use lib.ListN.{length, getD, take, drop, take-append-drop, drop-of-length-le, length-drop}
-use lib.Seq.{getD-drop, drop-drop}
+use lib.Seq.{getD-take, getD-drop, drop-drop, length-take-le}
 use borrow.Author.Tests.{lt-ltb, le-ltb, eq-eqb, ne-eqb}
 use Rattle.clauses.specs.Clauses.{Literal, clausesFrom, clausesOf}
 use Rattle.clauses.specs.Codes.{codeOf}
@@ -18,7 +18,15 @@ use Rattle.refute.specs.Reading.{literalOf, literalsOf, NextZero}
 use Rattle.refute.specs.Rows.{magnitude, firstBeyond, ended, firstEmpty, lastRow}
 use Rattle.refute.specs.declared.Checked.the-variants.{Passes, Refused}
 use Rattle.refusal.specs.declared.Refusal.the-variants.{Last}
-use Rattle.refute.proofs.Reading.{coded, next-number, clause-grows, clause-ends}
+use Rattle.basics.proofs.Truth.{holds}
+use Rattle.refute.proofs.Reading.{
+  coded,
+  variable-size,
+  variable-none,
+  next-number,
+  clause-grows,
+  clause-ends,
+}
 
 -- ---- the first number beyond
 
@@ -36,21 +44,21 @@ beyond-next : (variables : ℕ) (list : List ℤ) (i : ℕ) → i < length list 
 unfolding firstBeyond
 beyond-next variables list i h = ap (firstBeyond variables) (next-number list i h)
 
-module _ {variables : ℕ} {list : List ℤ} {i : ℕ} (x : ℕ) (b : Beyond variables list i) (h : i < length list)
-    (e : x ≡ codeOf (getD list i (pos 0))) where
-  pub beyond-found : variables < x / 2 → i ≡ firstBeyond variables list
+module _ {variables : ℕ} {list : List ℤ} {i : ℕ} (v : ℕ) (b : Beyond variables list i) (h : i < length list)
+    (e : v ≡ codeOf (getD list i (pos 0)) / 2) where
+  pub beyond-found : variables < v → i ≡ firstBeyond variables list
   beyond-found l =
       let k : variables < magnitude (getD list i (pos 0)) =
-      subst (λ (n : ℕ). variables < n) (coded (getD list i (pos 0)) x e .size) l in
+      subst (λ (n : ℕ). variables < n) (variable-size (getD list i (pos 0)) v e) l in
       let f : firstBeyond variables (drop i list) ≡ 0 =
       beyond-next variables list i h
       ∙ ap (λ (t : Bool). cond t 0 (suc (firstBeyond variables (drop (i + 1) list)))) (lt-ltb _ _ k) in
       omega (arith, b .left)
 
-  pub beyond-more : x / 2 ≤ variables → Beyond variables list (i + 1)
+  pub beyond-more : v ≤ variables → Beyond variables list (i + 1)
   beyond-more l =
       let k : magnitude (getD list i (pos 0)) ≤ variables =
-      subst (λ (n : ℕ). n ≤ variables) (coded (getD list i (pos 0)) x e .size) l in
+      subst (λ (n : ℕ). n ≤ variables) (variable-size (getD list i (pos 0)) v e) l in
       let f : firstBeyond variables (drop i list) ≡ suc (firstBeyond variables (drop (i + 1) list)) =
       beyond-next variables list i h
       ∙ ap (λ (t : Bool). cond t 0 (suc (firstBeyond variables (drop (i + 1) list)))) (le-ltb _ _ k) in
@@ -70,9 +78,43 @@ unfolding ended
 ended-empty [] e = refl
 ended-empty (z ∷ zs) e = absurd (omega arith)
 
-pub ended-by : (list : List ℤ) (x : ℕ) → x ≡ codeOf (getD list (length list - 1) (pos 0)) → eqb (x / 2) 0 ≡ ended list
+pub ended-by : (list : List ℤ) (v : ℕ) → v ≡ codeOf (getD list (length list - 1) (pos 0)) / 2 → eqb v 0 ≡ ended list
 unfolding ended
-ended-by list x e = ap (λ (n : ℕ). eqb n 0) (coded (getD list (length list - 1) (pos 0)) x e .size)
+ended-by list v e = ap (λ (n : ℕ). eqb n 0) (variable-size (getD list (length list - 1) (pos 0)) v e)
+
+-- a 0 is a number of magnitude 0
+size-of-zero : (z : ℤ) → codeOf z ≡ 0 → magnitude z ≡ 0
+size-of-zero z e = omega (arith, coded z (codeOf z) refl .size)
+
+zero-of-size : (z : ℤ) → magnitude z ≡ 0 → codeOf z ≡ 0
+zero-of-size z e = variable-none z 0 (sym e ∙ sym (coded z (codeOf z) refl .size)) refl
+
+-- in a list that ends in 0, a number that is not 0 has one after it
+pub one-after : (list : List ℤ) (i : ℕ) → T (ended list) → i < length list → (codeOf (getD list i (pos 0)) ≡ 0 → ⊥) →
+    i + 1 < length list
+unfolding ended
+one-after list i t h n = go (decLt (i + 1) (length list))
+  where
+    go : Dec (i + 1 < length list) → i + 1 < length list
+    go (yes l) = l
+    go (no l) =
+        let e : length list - 1 ≡ i = omega arith in
+        absurd
+        (n
+        (subst (λ (k : ℕ). codeOf (getD list k (pos 0)) ≡ 0) e
+        (zero-of-size (getD list (length list - 1) (pos 0)) (eqb→eq _ _ t))))
+
+-- the numbers up to a 0 end in 0
+pub ended-at : (list : List ℤ) (i : ℕ) → i < length list → codeOf (getD list i (pos 0)) ≡ 0 →
+    T (ended (take (i + 1) list))
+unfolding ended
+ended-at list i h e =
+    let l : length (take (i + 1) list) - 1 ≡ i = omega (arith, length-take-le (i + 1) list (omega arith)) in
+    holds
+    (eq-eqb _ _
+    (ap (λ (k : ℕ). magnitude (getD (take (i + 1) list) k (pos 0))) l
+    ∙ ap magnitude (getD-take (i + 1) list i (pos 0) (omega arith))
+    ∙ size-of-zero (getD list i (pos 0)) e))
 
 -- ---- the first 0
 
@@ -115,6 +157,19 @@ zero-none b h =
       there = λ l. absurd (omega arith);
     }
 
+-- a list that ends in 0 has one from every place of it on
+pub zero-there : {list : List ℤ} {from to : ℕ} → T (ended list) → from < length list → NextZero list from to →
+    to < length list
+unfolding ended
+zero-there {list} {from} {to} t h z = go (decLt to (length list))
+  where
+    go : Dec (to < length list) → to < length list
+    go (yes l) = l
+    go (no l) =
+        absurd
+        (z .none-before (length list - 1) (omega arith) (omega arith)
+        (zero-of-size (getD list (length list - 1) (pos 0)) (eqb→eq _ _ t)))
+
 -- ---- from clause to clause
 
 abbrev pub NoZero : List ℤ → ℕ → Type 0
@@ -152,12 +207,12 @@ module _ {list : List ℤ} {from to : ℕ} (z : NextZero list from to) where
       (no-zero (length (drop from list)) (omega (arith, length-drop from list, z .above, z .upto)))
 
   module _ (h : to < length list) where
-    -- the part of the list that is a clause and its 0, before anything
-    pub part-reads : (ys : List ℤ) →
-        clausesOf (take (suc (to - from)) (drop from list) ++ ys)
-        ≡ literalsOf (take (to - from) (drop from list)) ∷ clausesOf ys
-    part-reads ys =
-        cut-prefix (drop from list) (to - from) [] (omega (arith, length-drop from list, z .above))
+    -- the part of the list that ends a clause that was begun, with its 0, before anything
+    pub part-reads : (begun : List Literal) (ys : List ℤ) →
+        clausesFrom begun (take (suc (to - from)) (drop from list) ++ ys)
+        ≡ (begun ++ literalsOf (take (to - from) (drop from list))) ∷ clausesOf ys
+    part-reads begun ys =
+        cut-prefix (drop from list) (to - from) begun (omega (arith, length-drop from list, z .above))
         (no-zero (to - from) (omega (arith, z .above)))
         (subst (λ (y : ℤ). codeOf y ≡ 0)
         (sym
@@ -166,18 +221,23 @@ module _ {list : List ℤ} {from to : ℕ} (z : NextZero list from to) where
         (z .there h))
         ys
 
-    -- the next clause, and those after it
-    pub next-clause : clausesOf (drop from list)
-        ≡ literalsOf (take (to - from) (drop from list)) ∷ clausesOf (drop (to + 1) list)
-    next-clause =
-        ap clausesOf
+    -- the rest of a clause that was begun, and those after it
+    pub rest-of-clause : (begun : List Literal) → clausesFrom begun (drop from list)
+        ≡ (begun ++ literalsOf (take (to - from) (drop from list))) ∷ clausesOf (drop (to + 1) list)
+    rest-of-clause begun =
+        ap (clausesFrom begun)
         (sym
         (ap (λ (t : List ℤ). take (suc (to - from)) (drop from list) ++ t)
         (sym
         (drop-drop (suc (to - from)) from list
         ∙ ap (λ (n : ℕ). drop n list) (let e : from + suc (to - from) ≡ to + 1 = omega (arith, z .above) in e)))
         ∙ take-append-drop (suc (to - from)) (drop from list)))
-        ∙ part-reads (drop (to + 1) list)
+        ∙ part-reads begun (drop (to + 1) list)
+
+    -- the next clause, and those after it
+    pub next-clause : clausesOf (drop from list)
+        ≡ literalsOf (take (to - from) (drop from list)) ∷ clausesOf (drop (to + 1) list)
+    next-clause = rest-of-clause []
 
 -- ---- row 13
 

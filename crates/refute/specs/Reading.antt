@@ -3,7 +3,7 @@
 use mathlib.Core.Bool.{Bool, true, false, cond}
 use mathlib.Core.List.{List, _++_, map}
 use Prim.Native.Nat.{ℕ, zero, suc, _+_, _/_, _%_, _≤_, _<_}
-use lib.Dec.{eqb}
+use lib.Dec.{T, eqb}
 use lib.IntN.{ℤ, pos, negsuc}
 use lib.ListN.{length, getD, replicate}
 use mathlib.Core.Path.{_≡_}
@@ -11,7 +11,7 @@ use Rattle.clauses.specs.Clauses.{Literal, clausesOf}
 use Rattle.clauses.specs.Codes.{codeOf}
 use Rattle.refute.specs.Passes.{Asserted, contradict, marked, follows, verdict}
 use Rattle.refute.specs.Propagation.{Verdict, passes, stops}
-use Rattle.refute.specs.Rows.{magnitude}
+use Rattle.refute.specs.Rows.{magnitude, ended}
 use Rattle.refute.specs.declared.Scan.{Scan}
 use Rattle.refute.specs.declared.Checked.{Checked}
 use Rattle.refute.specs.declared.Checked.the-variants.{Passes, Refused}
@@ -37,15 +37,14 @@ listAt formula earlier (suc n) = earlier
 
 -- a free literal more: the first is kept, the same again changes nothing, another makes two
 abbrev pub lookedFree : ℕ → Scan → ℕ → Scan
-lookedFree zero scan code = record { satisfied = scan .satisfied; free = 1; unit = code }
-lookedFree (suc n) scan code =
-    cond (eqb code (scan .unit)) scan (record { satisfied = scan .satisfied; free = 2; unit = scan .unit })
+lookedFree zero scan code = record { free = 1; unit = code }
+lookedFree (suc n) scan code = cond (eqb code (scan .unit)) scan (record { free = 2; unit = scan .unit })
 
--- a literal more, by the mark of its variable
+-- a literal more, by the mark of its variable; a true one counts as two
 abbrev pub lookedBy : ℕ → Scan → ℕ → Scan
 lookedBy zero scan code = lookedFree (scan .free) scan code
 lookedBy (suc mark) scan code =
-    cond (eqb (suc mark) (code % 2 + 1)) (record { satisfied = true; free = scan .free; unit = scan .unit }) scan
+    cond (eqb (suc mark) (code % 2 + 1)) (record { free = 2; unit = scan .unit }) scan
 
 -- a literal more, under the marks
 unfoldable pub looked : List ℕ → Scan → ℕ → Scan
@@ -56,11 +55,13 @@ unfoldable pub outcome : Bool → List ℕ → Asserted
 outcome true marks = contradict
 outcome false marks = marked marks
 
--- what a test of one clause asks for: marks that are all free, and one for each number
+-- what a test of one clause asks for: marks that are all free, and one for each number; stored lists that end in 0
 pub record Ready (formula earlier clause : List ℤ) (marks : List ℕ) : Type 0 where
   pub clear : marks ≡ replicate (length marks) 0
   pub formula-fits : Within (length marks) formula
+  pub formula-ends : T (ended formula)
   pub earlier-fits : Within (length marks) earlier
+  pub earlier-ends : T (ended earlier)
   pub clause-fits : Within (length marks) clause
 
 -- the place of the first 0 from a place on, or the length; a 0 is the number of code 0
@@ -70,10 +71,11 @@ pub record NextZero (list : List ℤ) (from to : ℕ) : Type 0 where
   pub none-before : (k : ℕ) → from ≤ k → k < to → codeOf (getD list k (pos 0)) ≡ 0 → ⊥
   pub there : to < length list → codeOf (getD list to (pos 0)) ≡ 0
 
--- what a test of a refutation asks for: marks that are all free, and one for each number
+-- what a test of a refutation asks for: marks that are all free, and one for each number; a formula that ends in 0
 pub record Clear (formula refutation : List ℤ) (marks : List ℕ) : Type 0 where
   pub clear : marks ≡ replicate (length marks) 0
   pub formula-fits : Within (length marks) formula
+  pub formula-ends : T (ended formula)
   pub refutation-fits : Within (length marks) refutation
 
 -- the answer that a verdict stands for

@@ -2,8 +2,10 @@
 use refusal::Refusal;
 ghost use mathlib.Core.Path.{_≡_};
 ghost use Prim.Native.Nat.{_/_, _≤_, _<_};
-ghost use lib.ListN.{length, replicate};
+ghost use lib.IntN.{pos};
+ghost use lib.ListN.{length, getD, replicate};
 ghost use Rattle.clauses.specs.Clauses.{clausesOf};
+ghost use Rattle.clauses.specs.Codes.{codeOf};
 ghost use Rattle.refute.specs.Parts.{foundIn, spanOf, Part};
 ghost use Rattle.refute.specs.Passes.{assert};
 ghost use Rattle.refute.specs.Promise.{Checks, Tested};
@@ -37,7 +39,7 @@ fn first_beyond(variables: usize, list: &[i32]) -> usize
 {
     let mut i: usize = 0;
     while i < list.len() {
-        if variables < clauses::code_at(list, i) / 2 {
+        if variables < clauses::variable_at(list, i) {
             return i;
         }
         i += 1;
@@ -52,7 +54,7 @@ fn is_ended(list: &[i32]) -> bool
     if list.len() == 0 {
         return true;
     }
-    clauses::code_at(list, list.len() - 1) / 2 == 0
+    clauses::variable_at(list, list.len() - 1) == 0
 }
 
 // Row 11, FORMULA.
@@ -152,27 +154,28 @@ fn refutation_rows(variables: usize, refutation: &[i32], room: usize) -> Checked
     }
 }
 
-// What a clause's literals say so far: whether one is true, how many are free (2 stands for more), the first of these.
+// What a clause's literals say so far, by how many different ones are free: with none, that the clause is false; with
+// one, whose code is `unit`, that it becomes true; 2 stands for more, or for a true literal, and then there is nothing
+// to say, whatever comes after.
 pub struct Scan {
-    pub satisfied: bool,
     pub free: u8,
     pub unit: usize,
 }
 
-// One literal more of a clause, given by its code.
-fn look(scan: Scan, marks: &[u8], code: usize) -> Scan
-    requires { ⌜ code / 2 < length (now marks) ⌝ }
-    ensures { λ r. ⌜ r ≡ looked (now (marks .entry)) scan code ⌝ }
+// One literal more of a clause, by the mark of its variable. The code is made only after that: it costs more.
+fn look(scan: Scan, marks: &[u8], list: &[i32], at: usize) -> Scan
+    requires { ⌜ at < length (now list) ⌝ }
+    requires { ⌜ codeOf (getD (now list) at (pos 0)) / 2 < length (now marks) ⌝ }
+    ensures { λ r. ⌜ r ≡ looked (now (marks .entry)) scan (codeOf (getD (now (list .entry)) at (pos 0))) ⌝ }
 {
-    let satisfied = scan.satisfied;
     let free = scan.free;
     let unit = scan.unit;
-    let variable = code / 2;
+    let variable = clauses::variable_at(list, at);
     let mark = marks[variable];
     if mark == 0 {
+        let code = clauses::code_at(list, at);
         if free == 0 {
             return Scan {
-                satisfied: satisfied,
                 free: 1,
                 unit: code,
             };
@@ -181,16 +184,14 @@ fn look(scan: Scan, marks: &[u8], code: usize) -> Scan
             return scan;
         }
         return Scan {
-            satisfied: satisfied,
             free: 2,
             unit: unit,
         };
     }
-    let wanted = (code % 2 + 1) as u8;
+    let wanted = (clauses::code_at(list, at) % 2 + 1) as u8;
     if mark == wanted {
         return Scan {
-            satisfied: true,
-            free: free,
+            free: 2,
             unit: unit,
         };
     }
@@ -228,7 +229,8 @@ fn list_of<'a>(formula: &'a [i32], earlier: &'a [i32], which: usize) -> &'a [i32
 
 // Whether a clause, given without its 0, follows from the formula and the earlier clauses. The passes go over both
 // lists in order and assign as they go; the first clause with every literal false ends them, and so does a pass that
-// assigns none.
+// assigns none. A clause that can say nothing is left at once. Both lists end in 0, so that within a clause no place is
+// tested.
 fn follows<'a>(formula: &'a [i32], earlier: &'a [i32], clause: &[i32], marks: &mut [u8]) -> bool
     requires { ⌜ Ready (now formula) (now earlier) (now clause) (now marks) ⌝ }
     ensures { λ r.
@@ -245,36 +247,30 @@ fn follows<'a>(formula: &'a [i32], earlier: &'a [i32], clause: &[i32], marks: &m
             let list = list_of(formula, earlier, which);
             let mut at: usize = 0;
             while at < list.len() {
-                let mut scan = Scan {
-                    satisfied: false,
-                    free: 0,
-                    unit: 0,
-                };
+                let mut scan = Scan { free: 0, unit: 0 };
                 let mut next = at;
-                while next < list.len() {
-                    let code = clauses::code_at(list, next);
-                    if code == 0 {
+                loop {
+                    if clauses::variable_at(list, next) == 0 {
                         break;
                     }
-                    scan = look(scan, marks, code);
+                    scan = look(scan, marks, list, next);
                     next += 1;
-                }
-                if next < list.len() {
-                    if !scan.satisfied {
-                        if scan.free == 0 {
-                            answer = true;
-                            break 'passes;
-                        }
-                        if scan.free == 1 {
-                            let unit = scan.unit;
-                            let variable = unit / 2;
-                            marks[variable] = (unit % 2 + 1) as u8;
-                            changed = true;
-                        }
+                    if scan.free == 2 {
+                        next = next_zero(list, next);
+                        break;
                     }
-                    next += 1;
                 }
-                at = next;
+                if scan.free == 0 {
+                    answer = true;
+                    break 'passes;
+                }
+                if scan.free == 1 {
+                    let unit = scan.unit;
+                    let variable = unit / 2;
+                    marks[variable] = (unit % 2 + 1) as u8;
+                    changed = true;
+                }
+                at = next + 1;
             }
             which += 1;
         }

@@ -1,6 +1,6 @@
 -- `clauses::code_of` meets its contract: below 0, -1 less the number never overflows and is its magnitude less one.
 -- Assumes nothing.
-use mathlib.Core.Path.{_≡_, sym}
+use mathlib.Core.Path.{sym}
 use native.Mathlib.Omega.{arith}
 use lib.Signed.{mag}
 use mir.Syntax.{w32}

@@ -15,13 +15,13 @@ abbrev μ-loop : tie.MeasureT-loop
 loop-holds : tie.Need-loop-holds Inv-loop μ-loop
 loop-holds c = W.beyond-starts _ _
 
-code-at-requires : tie.Need-code-at-requires Inv-loop μ-loop
-code-at-requires c κs = search needs
+variable-at-requires : tie.Need-variable-at-requires Inv-loop μ-loop
+variable-at-requires c κs = search needs
 
 returns : tie.Need-returns Inv-loop μ-loop
 returns c =
     W.beyond-found _ (c .before .before .before .loop .inv) (c .before .before .loop-test .taken)
-    (c .before .code-at .ensures .0) (c .if1 .taken)
+    (c .before .variable-at .ensures .0) (c .if1 .taken)
 
 add-i : tie.Need-add-i Inv-loop μ-loop
 add-i c = search needs
@@ -32,7 +32,7 @@ loop-less c = search needs
 loop-again : tie.Need-loop-again Inv-loop μ-loop
 loop-again c =
     W.beyond-more _ (c .before .before .before .loop .inv) (c .before .before .loop-test .taken)
-    (c .before .code-at .ensures .0) (c .if1 .left)
+    (c .before .variable-at .ensures .0) (c .if1 .left)
 
 returns-2 : tie.Need-returns-2 Inv-loop μ-loop
 returns-2 c = W.beyond-none (c .before .loop .inv) (c .loop-test .left)
@@ -44,7 +44,7 @@ first-beyond-spec =
     Inv-loop
     μ-loop
     loop-holds
-    code-at-requires
+    variable-at-requires
     returns
     add-i
     loop-less

@@ -1,16 +1,21 @@
 -- `refute::follows` meets its contract: at each of its four loops what is left to do comes to the answer; a pass
 -- that goes on leaves fewer variables free. Assumes nothing.
-use mathlib.Core.Path.{_≡_, refl, _∙_}
+use mathlib.Core.Path.{_≡_, refl, ap, _∙_}
 use mathlib.Core.Bool.{false}
+use mathlib.Core.List.{List}
 use mathlib.Core.Logic.{⊎-elim}
-use Prim.Native.Nat.{_-_, _/_, _<_}
+use Prim.Native.Nat.{ℕ, _-_, _/_, _<_}
 use native.Mathlib.Omega.{arith}
-use lib.ListN.{length}
+use lib.Dec.{T}
+use lib.IntN.{ℤ, pos}
+use lib.ListN.{length, getD}
 use borrow.Author.Needs.{needs}
 use borrow.Author.Tests.{not-true, not-false}
+use Rattle.clauses.specs.Codes.{codeOf}
+use Rattle.refute.specs.Rows.{ended}
 use Rattle.refute.proofs.Marks.{zeros}
 use Rattle.refute.proofs.Passing as P
-use Rattle.refute.proofs.Reading.{code-within}
+use Rattle.refute.proofs.Reading.{code-within, variable-none, variable-some}
 use Rattle.refute.proofs.follows.Statement.{statement}
 use Rattle.refute.proofs.follows.Tie as tie
 
@@ -55,40 +60,51 @@ abbrev list-at : tie.At-loop2 Inv-loop3 μ-loop3 Inv-loop2 μ-loop2 Inv-loop μ-
     tie.At-loop Inv-loop3 μ-loop3 Inv-loop2 μ-loop2 Inv-loop μ-loop Inv-passes μ-passes
 list-at c = c .before .before .before
 
-abbrev clause-at : tie.Then3 Inv-loop3 μ-loop3 Inv-loop2 μ-loop2 Inv-loop μ-loop Inv-passes μ-passes →
+abbrev clause-at : tie.After-variable-at Inv-loop3 μ-loop3 Inv-loop2 μ-loop2 Inv-loop μ-loop Inv-passes μ-passes →
     tie.At-loop2 Inv-loop3 μ-loop3 Inv-loop2 μ-loop2 Inv-loop μ-loop Inv-passes μ-passes
-clause-at c = c .before .before .before .before
+clause-at c = c .before .before .before
 
 -- the assertions leave as many marks
 as-many : (c : tie.At-passes Inv-loop3 μ-loop3 Inv-loop2 μ-loop2 Inv-loop μ-loop Inv-passes μ-passes) →
     length (c .before .before .before .before .assert-opposites .last .1 .0) ≡ length (start c .args .marks .now)
 as-many c = search needs
 
--- the literal that was read has a mark
-within : (c : tie.After-code-at Inv-loop3 μ-loop3 Inv-loop2 μ-loop2 Inv-loop μ-loop Inv-passes μ-passes) →
-    c .code-at .result / 2 < length (c .before .before .before .before .loop2 .marks)
-within c =
+-- each number of the list has a mark
+within : (c : tie.At-loop2 Inv-loop3 μ-loop3 Inv-loop2 μ-loop2 Inv-loop μ-loop Inv-passes μ-passes) (k : ℕ) →
+    codeOf (getD (c .before .list-of .result .now) k (pos 0)) / 2 < length (c .loop2 .marks)
+within c k =
     rw (
-      c .before .before .before .before .loop2 .inv .1 .long,
-      list-at (c .before .before .before .before) .loop .inv .1 .long,
-      pass-at (c .before .before .before .before) .passes .inv .1 .long,
-      as-many (pass-at (c .before .before .before .before)),
+      c .loop2 .inv .1 .long,
+      list-at c .loop .inv .1 .long,
+      pass-at c .passes .inv .1 .long,
+      as-many (pass-at c),
     )
-    (code-within _ _ _ (rw (c .before .before .before .before .before .list-of .ensures) at (c .code-at .ensures .0))
-    (P.stored-fits (list-at (c .before .before .before .before) .loop .which)
-    (start (pass-at (c .before .before .before .before)) .pre) (c .before .before .loop3 .next)))
+    (code-within _ _ _ (ap (λ (zs : List ℤ). codeOf (getD zs k (pos 0))) (c .before .list-of .ensures))
+    (P.stored-fits (list-at c .loop .which) (start (pass-at c) .pre) k))
 
--- a whole clause was read
-closed : (c : tie.Then3 Inv-loop3 μ-loop3 Inv-loop2 μ-loop2 Inv-loop μ-loop Inv-passes μ-passes) →
-    P.Closed (clause-at c .before .list-of .result .now) (list-at (clause-at c) .loop .marks)
-    (list-at (clause-at c) .loop .changed) (clause-at c .loop2 .marks) (clause-at c .loop2 .changed)
-    (c .before .before .loop3 .scan) (c .before .before .loop3 .next)
+-- the list ends in 0
+ends : (c : tie.At-loop2 Inv-loop3 μ-loop3 Inv-loop2 μ-loop2 Inv-loop μ-loop Inv-passes μ-passes) →
+    T (ended (c .before .list-of .result .now))
+ends c = rw (c .before .list-of .ensures) (P.stored-ends (list-at c .loop .which) (start (pass-at c) .pre))
+
+-- a whole clause was read, or left where there was nothing more to say
+closed : (c : tie.Joined2 Inv-loop3 μ-loop3 Inv-loop2 μ-loop2 Inv-loop μ-loop Inv-passes μ-passes) →
+    P.Closed (clause-at (c .before) .before .list-of .result .now) (list-at (clause-at (c .before)) .loop .marks)
+    (list-at (clause-at (c .before)) .loop .changed) (clause-at (c .before) .loop2 .marks)
+    (clause-at (c .before) .loop2 .changed) (clause-at (c .before) .loop2 .at) (c .if2 .scan) (c .if2 .next)
 closed c =
-    ⊎-elim (λ w. absurd (omega (arith, w .left)))
+    let v = clause-at (c .before) .loop2 .inv .1 in
+    let b = c .before .before .loop3 .inv in
+    ⊎-elim
     (λ w.
-    P.closes _ (clause-at c .loop2 .inv .1) (c .before .before .loop3 .inv) (c .if3 .taken) (w .1 .ensures .0)
-    (w .2 .taken))
-    (c .before .loop3-test .came)
+    rw (w .1, w .2)
+    (P.closes v b (variable-none _ _ (c .before .variable-at .ensures .0) (w .0 .taken))))
+    (λ w.
+    rw (w .6, w .7)
+    (P.closes-early v b (ends (clause-at (c .before)))
+    (variable-some _ _ (c .before .variable-at .ensures .0) (w .0 .left)) (w .2 .ensures) (w .4 .taken)
+    (w .5 .ensures)))
+    (c .if2 .came)
 
 assert-opposites-requires :
     tie.Need-assert-opposites-requires
@@ -137,10 +153,10 @@ loop2-holds c = (c .before .before .loop .inv .0, P.visiting-starts _ _ _)
 
 loop3-holds :
     tie.Need-loop3-holds Inv-loop3 μ-loop3 Inv-loop2 μ-loop2 Inv-loop μ-loop Inv-passes μ-passes
-loop3-holds c = P.begun-starts _ _ _ (c .before .loop2 .inv .1 .upto)
+loop3-holds c = P.begun-starts _ _ _ (c .loop2-test .taken)
 
-code-at-requires :
-    tie.Need-code-at-requires
+variable-at-requires :
+    tie.Need-variable-at-requires
     Inv-loop3
     μ-loop3
     Inv-loop2
@@ -149,27 +165,40 @@ code-at-requires :
     μ-loop
     Inv-passes
     μ-passes
-code-at-requires c κs = search needs
+variable-at-requires c κs = c .loop3 .inv .within
 
 look-requires :
     tie.Need-look-requires Inv-loop3 μ-loop3 Inv-loop2 μ-loop2 Inv-loop μ-loop Inv-passes μ-passes
-look-requires c κs = within (c .before .before)
+look-requires c κs = (c .before .before .before .loop3 .inv .within, within (clause-at (c .before .before)) _)
 
 add-next :
     tie.Need-add-next Inv-loop3 μ-loop3 Inv-loop2 μ-loop2 Inv-loop μ-loop Inv-passes μ-passes
 add-next c = search needs
 
+next-zero-requires :
+    tie.Need-next-zero-requires
+    Inv-loop3
+    μ-loop3
+    Inv-loop2
+    μ-loop2
+    Inv-loop
+    μ-loop
+    Inv-passes
+    μ-passes
+next-zero-requires c κs = omega (arith, c .before .before .before .before .before .before .loop3 .inv .within)
+
 loop3-less :
     tie.Need-loop3-less Inv-loop3 μ-loop3 Inv-loop2 μ-loop2 Inv-loop μ-loop Inv-passes μ-passes
-loop3-less c = omega (arith, c .before .before .before .before .before .loop3 .inv .upto)
+loop3-less c = omega (arith, c .before .before .before .before .before .before .loop3 .inv .within)
 
 loop3-again :
     tie.Need-loop3-again Inv-loop3 μ-loop3 Inv-loop2 μ-loop2 Inv-loop μ-loop Inv-passes μ-passes
 loop3-again c =
-    P.begun-more _ _ (c .before .before .before .before .before .loop3 .inv)
-    (c .before .before .before .before .loop3-test .taken) (c .before .before .before .code-at .ensures .0)
-    (c .before .before .if2 .left)
-    (within (c .before .before .before)) (c .look .ensures)
+    P.begun-more (c .before .before .before .before .before .before .loop3 .inv)
+    (variable-some _ _ (c .before .before .before .before .before .variable-at .ensures .0)
+    (c .before .before .before .before .if2 .left))
+    (c .before .before .look .ensures) (ends (clause-at (c .before .before .before .before .before)))
+    (within (clause-at (c .before .before .before .before .before)) _) (c .if3 .left)
 
 add-marks :
     tie.Need-add-marks Inv-loop3 μ-loop3 Inv-loop2 μ-loop2 Inv-loop μ-loop Inv-passes μ-passes
@@ -190,49 +219,25 @@ slice-write-marks :
     Inv-passes
     μ-passes
 slice-write-marks c =
-    let k = c .before .before .before .before .before .before in
-    P.unit-within (closed k) (P.closed-one (closed k) (not-true _ (c .before .before .before .before .if4 .taken))
-    (c .if6 .taken))
+    P.unit-within (closed (c .before .before .before .before) .spoken .lone (c .if5 .taken))
 
-add-next-2 :
-    tie.Need-add-next-2 Inv-loop3 μ-loop3 Inv-loop2 μ-loop2 Inv-loop μ-loop Inv-passes μ-passes
-add-next-2 c = search needs
+add-at : tie.Need-add-at Inv-loop3 μ-loop3 Inv-loop2 μ-loop2 Inv-loop μ-loop Inv-passes μ-passes
+add-at c = omega (arith, closed (c .before .before .before .before .before) .within)
 
 loop2-less :
     tie.Need-loop2-less Inv-loop3 μ-loop3 Inv-loop2 μ-loop2 Inv-loop μ-loop Inv-passes μ-passes
-loop2-less c = omega (arith, c .before .before .before .before .loop3 .inv .above, c .before .before .if3 .taken)
+loop2-less c =
+    let k = closed (c .before .before .before .before .before) in
+    omega (arith, k .above, k .within)
 
 loop2-again :
     tie.Need-loop2-again Inv-loop3 μ-loop3 Inv-loop2 μ-loop2 Inv-loop μ-loop Inv-passes μ-passes
 loop2-again c = (
-  c .before .before .before .before .before .before .loop2 .inv .0,
-  ⊎-elim
-      (λ w.
-      rw (w .5, w .6)
-      (P.visiting-unit (closed (c .before .before))
-      (P.closed-one (closed (c .before .before)) (not-true _ (w .0 .taken)) (w .4 .taken))))
-      (⊎-elim
-      (λ w.
-      rw (w .5, w .6)
-      (P.visiting-quiet (closed (c .before .before))
-      (P.closed-more (closed (c .before .before)) (not-true _ (w .0 .taken)) (w .2 .left) (w .4 .left))))
-      (λ w.
-      rw (w .1, w .2)
-      (P.visiting-quiet (closed (c .before .before))
-      (P.closed-true (closed (c .before .before)) (not-false _ (w .0 .left))))))
-      (c .if4 .came),
-)
-
-loop2-less-2 :
-    tie.Need-loop2-less-2 Inv-loop3 μ-loop3 Inv-loop2 μ-loop2 Inv-loop μ-loop Inv-passes μ-passes
-loop2-less-2 c = omega (arith, c .before .before .loop3 .inv .above, c .if3 .left)
-
-loop2-again-2 :
-    tie.Need-loop2-again-2 Inv-loop3 μ-loop3 Inv-loop2 μ-loop2 Inv-loop μ-loop Inv-passes μ-passes
-loop2-again-2 c = (
-  c .before .before .before .before .loop2 .inv .0,
-  P.visiting-out
-      (c .before .before .before .before .loop2 .inv .1) (c .before .before .loop3 .inv) (c .if3 .left),
+  clause-at (c .before .before .before .before .before .before) .loop2 .inv .0,
+  let k = closed (c .before .before .before .before .before) in
+      ⊎-elim (λ w. rw (w .1, w .2) (P.visiting-unit k (k .spoken .lone (w .0 .taken))))
+      (λ w. rw (w .1, w .2) (P.visiting-quiet k (k .spoken .more (c .before .before .before .if4 .left) (w .0 .left))))
+      (c .before .if5 .came),
 )
 
 add-which :
@@ -254,36 +259,32 @@ loop-again c = (
 
 passes-less :
     tie.Need-passes-less Inv-loop3 μ-loop3 Inv-loop2 μ-loop2 Inv-loop μ-loop Inv-passes μ-passes
-passes-less c = P.fewer-free (c .before .before .loop .inv .1) (not-false _ (c .if7 .left))
+passes-less c = P.fewer-free (c .before .before .loop .inv .1) (not-false _ (c .if6 .left))
 
 passes-again :
     tie.Need-passes-again Inv-loop3 μ-loop3 Inv-loop2 μ-loop2 Inv-loop μ-loop Inv-passes μ-passes
 passes-again c = (
   c .before .before .loop .inv .0,
   P.running-more (c .before .before .before .passes .inv .1) (c .before .before .loop .inv .1)
-      (c .before .loop-test .left) (not-false _ (c .if7 .left)),
+      (c .before .loop-test .left) (not-false _ (c .if6 .left)),
 )
 
 same-length-2 :
     tie.Need-same-length-2 Inv-loop3 μ-loop3 Inv-loop2 μ-loop2 Inv-loop μ-loop Inv-passes μ-passes
 same-length-2 c =
-    clause-at (c .before .before .before .before) .loop2 .inv .1 .long
-    ∙ list-at (clause-at (c .before .before .before .before)) .loop .inv .1 .long
-    ∙ pass-at (clause-at (c .before .before .before .before)) .passes .inv .1 .long
-    ∙ as-many (pass-at (clause-at (c .before .before .before .before)))
+    let k = clause-at (c .before .before .before) in
+    k .loop2 .inv .1 .long ∙ list-at k .loop .inv .1 .long ∙ pass-at k .passes .inv .1 .long ∙ as-many (pass-at k)
 
 returns-2 :
     tie.Need-returns-2 Inv-loop3 μ-loop3 Inv-loop2 μ-loop2 Inv-loop μ-loop Inv-passes μ-passes
 returns-2 c =
-    let k = c .before .before .before .before in
-    let p = pass-at (clause-at k) in
+    let k = clause-at (c .before .before .before) in
+    let p = pass-at k in
     P.follows-passes _ _ _ _ _ _ _ (start p .pre .clear) (p .before .before .before .before .assert-opposites .ensures)
     (p .before .if1 .left)
     (P.hit-ends (p .passes .inv .1)
-    (P.passing-hit (list-at (clause-at k) .loop .inv .1) (clause-at k .before .before .loop-test .taken)
-    (clause-at k .before .list-of .ensures)
-    (P.visiting-hit (closed k) (P.closed-none (closed k) (not-true _ (c .before .before .if4 .taken))
-    (c .if5 .taken)))))
+    (P.passing-hit (list-at k .loop .inv .1) (k .before .before .loop-test .taken) (k .before .list-of .ensures)
+    (P.visiting-hit (closed (c .before .before)) (closed (c .before .before) .spoken .none (c .if4 .taken)))))
 
 same-length-3 :
     tie.Need-same-length-3 Inv-loop3 μ-loop3 Inv-loop2 μ-loop2 Inv-loop μ-loop Inv-passes μ-passes
@@ -299,7 +300,7 @@ returns-3 c =
     (c .before .before .before .before .before .before .before .assert-opposites .ensures)
     (c .before .before .before .before .if1 .left)
     (P.still-ends (c .before .before .before .passes .inv .1) (c .before .before .loop .inv .1)
-    (c .before .loop-test .left) (not-true _ (c .if7 .taken)))
+    (c .before .loop-test .left) (not-true _ (c .if6 .taken)))
 
 pub follows-spec : {M : Type 1} → statement M
 follows-spec =
@@ -321,19 +322,18 @@ follows-spec =
     list-of-requires
     loop2-holds
     loop3-holds
-    code-at-requires
+    variable-at-requires
     look-requires
     add-next
+    next-zero-requires
     loop3-less
     loop3-again
     add-marks
     cast-marks
     slice-write-marks
-    add-next-2
+    add-at
     loop2-less
     loop2-again
-    loop2-less-2
-    loop2-again-2
     add-which
     loop-less
     loop-again

@@ -103,7 +103,8 @@ follows-requires c κs =
     J.ready (start (c .before .before .before) .args .refutation .now) (turn (c .before .before .before) .loop .start)
     (c .before .before .before .before .next-zero .result)
     (length (start (c .before .before .before) .args .marks .now)) (turn (c .before .before .before) .loop .inv .0)
-    (start (c .before .before .before) .pre .formula-fits) (start (c .before .before .before) .pre .refutation-fits)
+    (start (c .before .before .before) .pre .formula-fits) (start (c .before .before .before) .pre .formula-ends)
+    (start (c .before .before .before) .pre .refutation-fits) (turn (c .before .before .before) .loop .inv .1 .ends)
 
 zero-rest-u8-requires : tie.Need-zero-rest-u8-requires Inv-loop μ-loop
 zero-rest-u8-requires c κs = search needs
