@@ -27,12 +27,23 @@ pub fn print_number(number: usize) {
     print_decimal(number);
 }
 
-// The line `refused number place`.
-pub fn print_refused(refusal: Refusal) {
+// The words `refused number place`.
+pub fn print_refusal(refusal: Refusal) {
     print(b"refused");
     print_number(refusal::number(refusal) as usize);
     print_number(refusal::place(refusal));
+}
+
+// The line of these words.
+pub fn print_refused(refusal: Refusal) {
+    print_refusal(refusal);
     print(b"\n");
+}
+
+// The last line of a bundle of cases that is not one; there is no more case.
+pub fn bad_bundle() -> bool {
+    print(b"bad bundle\n");
+    false
 }
 
 // Reads until the slice is full or the input ends; how many bytes came.
@@ -40,6 +51,26 @@ pub fn read(slice: &mut [u8]) -> usize
     ensures { λ r. ⌜ Counts r (now (slice .exit)) ⌝ }
 {
     io::read_full(STDIN_FILENO, slice)
+}
+
+// What stands where a number of four bytes should.
+pub enum Word {
+    Number(usize),
+    Nothing,
+    Cut,
+}
+
+// Reads four bytes, little endian.
+pub fn read_number() -> Word {
+    let mut head = [0u8; 4];
+    let got = read(&mut head);
+    if got == 0 {
+        return Word::Nothing;
+    }
+    if got < 4 {
+        return Word::Cut;
+    }
+    Word::Number(lent::four_bytes(&head, 0))
 }
 
 // The smaller of two numbers: what is told of a length, and what is there.

@@ -17,32 +17,15 @@ fn word(input: &[u8], at: usize) -> usize
     0
 }
 
-// The smaller of two numbers.
-fn least(a: usize, b: usize) -> usize
-    ensures { λ r. ⌜ (r ≤ a) × (r ≤ b) ⌝ }
-{
-    if a < b { a } else { b }
-}
-
-// Four bytes as a signed number.
-fn signed(word: usize) -> i32
-    requires { ⌜ word < 4294967296 ⌝ }
-{
-    if word < 2147483648 {
-        return word as i32;
-    }
-    -1 - ((4294967295 - word) as i32)
-}
-
 // Up to 4,096 numbers, counted by the word before them, into the list from a place on; how many.
 fn read_list(input: &[u8], at: usize, list: &mut [i32], from: usize) -> usize
     requires { ⌜ (at < 4294967296) × (from ≤ 4096) × (from + 4096 ≤ length (now list)) ⌝ }
     ensures { λ r. ⌜ r ≤ 4096 ⌝ }
 {
-    let count = least(word(input, at), 4096);
+    let count = console::least(word(input, at), 4096);
     let mut i: usize = 0;
     while i < count {
-        list[from + i] = signed(word(input, at + 4 + i * 4));
+        list[from + i] = clauses::signed(word(input, at + 4 + i * 4));
         i += 1;
     }
     count
@@ -88,15 +71,8 @@ fn is_guarded(slice: &[u8], room: usize) -> bool
 // The answer to one check.
 fn print_answer(answer: Checked) {
     match answer {
-        Checked::Passes => {
-            io::write_all(1, b"passes");
-        }
-        Checked::Refused(refusal) => {
-            io::write_all(1, b"refused ");
-            io::print_decimal(1, refusal::number(refusal) as u64);
-            io::write_all(1, b" ");
-            io::print_decimal(1, refusal::place(refusal) as u64);
-        }
+        Checked::Passes => console::print(b"passes"),
+        Checked::Refused(refusal) => console::print_refusal(refusal),
     }
 }
 
@@ -125,12 +101,12 @@ fn check_case(
     );
     print_answer(answer);
     if is_zeroed(slice, room) {
-        io::write_all(1, b" zeros");
+        console::print(b" zeros");
     }
     if is_guarded(slice, room) {
-        io::write_all(1, b" guards");
+        console::print(b" guards");
     }
-    io::write_all(1, b"\n");
+    console::print(b"\n");
 }
 
 // One case from a place on; the place after it.
@@ -142,7 +118,7 @@ fn run_case(input: &[u8], at: usize, numbers: &mut [i32], slice: &mut [u8]) -> u
     let middle = at + 8 + formula * 4;
     let refutation = read_list(input, middle, numbers, 4096);
     let last = middle + 4 + refutation * 4;
-    let room = least(word(input, last), 4096);
+    let room = console::least(word(input, last), 4096);
     check_case(variables, numbers, formula, refutation, slice, room);
     last + 4
 }
@@ -166,6 +142,6 @@ fn main() {
     let mut input = io::large_buffer();
     let mut numbers = [0i32; 8192];
     let mut slice = [0u8; 4100];
-    let n = io::read_full(0, &mut input);
+    let n = console::read(&mut input);
     run(&input[..n], &mut numbers, &mut slice);
 }

@@ -4,58 +4,39 @@
 // ` times`, each followed by what was lent and four numbers behind it. It ends with the line `bad bundle` at a netlist
 // over 65,535 bytes, a vector over 255, a room over 600, and a case that is cut short. What matters is the contract of
 // settle::evaluate.
-use libc::STDIN_FILENO;
-use libc::STDOUT_FILENO;
-use refusal::Refusal;
+use console::Word;
 use settle::Settled;
 ghost use mathlib.Core.Path.{_≡_};
 ghost use Prim.Native.Nat.{_≤_};
 ghost use lib.ListN.{length};
 
-// What stands where a number of four bytes should.
-enum Read {
-    Number(usize),
-    Nothing,
-    Cut,
-}
-
-// A space and a number.
-fn print_number(number: usize) {
-    io::write_all(STDOUT_FILENO, b" ");
-    io::print_decimal(STDOUT_FILENO, number as u64);
-}
-
 // The answer.
 fn print_answer(settled: Settled) {
     match settled {
         Settled::At(time) => {
-            io::write_all(STDOUT_FILENO, b"settled");
-            print_number(lent::widen(time));
+            console::print(b"settled");
+            console::print_number(lent::widen(time));
         }
-        Settled::Refused(refusal) => {
-            io::write_all(STDOUT_FILENO, b"refused");
-            print_number(lent::widen(refusal::number(refusal)));
-            print_number(refusal::place(refusal));
-        }
+        Settled::Refused(refusal) => console::print_refusal(refusal),
     }
 }
 
 // The values.
 fn print_values(values: &[u8]) {
-    io::write_all(STDOUT_FILENO, b" values");
+    console::print(b" values");
     let mut i = 0;
     while i < values.len() {
-        print_number(lent::wide(values[i]));
+        console::print_number(lent::wide(values[i]));
         i += 1;
     }
 }
 
 // The times.
 fn print_times(times: &[u32]) {
-    io::write_all(STDOUT_FILENO, b" times");
+    console::print(b" times");
     let mut i = 0;
     while i < times.len() {
-        print_number(lent::widen(times[i]));
+        console::print_number(lent::widen(times[i]));
         i += 1;
     }
 }
@@ -90,35 +71,16 @@ fn answer(file: &[u8], vector: &[u8], values_room: usize, times_room: usize)
     print_values(&values[..values_shown]);
     let times_shown = times_room + 4;
     print_times(&times[..times_shown]);
-    io::write_all(STDOUT_FILENO, b"\n");
-}
-
-// The end of a bundle that is not one; there is no more case.
-fn bad_bundle() -> bool {
-    io::write_all(STDOUT_FILENO, b"bad bundle\n");
-    false
-}
-
-// Four bytes.
-fn read_number() -> Read {
-    let mut head = [0u8; 4];
-    let got = io::read_full(STDIN_FILENO, &mut head);
-    if got == 0 {
-        return Read::Nothing;
-    }
-    if got < 4 {
-        return Read::Cut;
-    }
-    Read::Number(lent::four_bytes(&head, 0))
+    console::print(b"\n");
 }
 
 // A case of which all but the slices is there; whether to go on.
 fn take_rooms(file: &[u8], vector: &[u8], values_room: usize, times_room: usize) -> bool {
     if 600 < values_room {
-        return bad_bundle();
+        return console::bad_bundle();
     }
     if 600 < times_room {
-        return bad_bundle();
+        return console::bad_bundle();
     }
     answer(file, vector, values_room, times_room);
     true
@@ -126,12 +88,12 @@ fn take_rooms(file: &[u8], vector: &[u8], values_room: usize, times_room: usize)
 
 // The bytes of a vector, of a length that was read, and the rooms; whether to go on.
 fn read_vector(file: &[u8], vector: &mut [u8]) -> bool {
-    if io::read_full(STDIN_FILENO, vector) < vector.len() {
-        return bad_bundle();
+    if console::read(vector) < vector.len() {
+        return console::bad_bundle();
     }
     let mut rooms = [0u8; 8];
-    if io::read_full(STDIN_FILENO, &mut rooms) < 8 {
-        return bad_bundle();
+    if console::read(&mut rooms) < 8 {
+        return console::bad_bundle();
     }
     let values_room = lent::four_bytes(&rooms, 0);
     let times_room = lent::four_bytes(&rooms, 4);
@@ -141,7 +103,7 @@ fn read_vector(file: &[u8], vector: &mut [u8]) -> bool {
 // A vector of a length that was read; whether to go on.
 fn take_vector(file: &[u8], length: usize) -> bool {
     if 255 < length {
-        return bad_bundle();
+        return console::bad_bundle();
     }
     let mut vector = io::buffer();
     read_vector(file, &mut vector[..length])
@@ -149,19 +111,19 @@ fn take_vector(file: &[u8], length: usize) -> bool {
 
 // The bytes of a netlist, of a length that was read, and the vector; whether to go on.
 fn read_file(file: &mut [u8]) -> bool {
-    if io::read_full(STDIN_FILENO, file) < file.len() {
-        return bad_bundle();
+    if console::read(file) < file.len() {
+        return console::bad_bundle();
     }
-    match read_number() {
-        Read::Number(length) => take_vector(file, length),
-        Read::Nothing | Read::Cut => bad_bundle(),
+    match console::read_number() {
+        Word::Number(length) => take_vector(file, length),
+        Word::Nothing | Word::Cut => console::bad_bundle(),
     }
 }
 
 // A netlist of a length that was read; whether to go on.
 fn take_file(length: usize) -> bool {
     if 65535 < length {
-        return bad_bundle();
+        return console::bad_bundle();
     }
     let mut file = io::large_buffer();
     read_file(&mut file[..length])
@@ -169,10 +131,10 @@ fn take_file(length: usize) -> bool {
 
 // One case; whether to go on.
 fn next_case() -> bool {
-    match read_number() {
-        Read::Number(length) => take_file(length),
-        Read::Nothing => false,
-        Read::Cut => bad_bundle(),
+    match console::read_number() {
+        Word::Number(length) => take_file(length),
+        Word::Nothing => false,
+        Word::Cut => console::bad_bundle(),
     }
 }
 

@@ -90,11 +90,11 @@ slice-aggregate-print-times c =
 print-times-requires : tie.Need-print-times-requires
 print-times-requires c κs = search needs
 
-slice-aggregate-write-all : tie.Need-slice-aggregate-write-all
-slice-aggregate-write-all c = search needs
+slice-aggregate-print : tie.Need-slice-aggregate-print
+slice-aggregate-print c = search needs
 
-write-all-requires : tie.Need-write-all-requires
-write-all-requires c κs = search needs
+print-requires : tie.Need-print-requires
+print-requires c κs = search needs
 
 returns : tie.Need-returns
 returns c = search needs
@@ -119,6 +119,6 @@ answer-spec =
     array-share-prefix-times
     slice-aggregate-print-times
     print-times-requires
-    slice-aggregate-write-all
-    write-all-requires
+    slice-aggregate-print
+    print-requires
     returns)
