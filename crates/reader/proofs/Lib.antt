@@ -2,3 +2,4 @@
 pub mod Lengths
 pub mod Agree
 pub mod Unique
+pub mod Apart
