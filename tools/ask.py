@@ -1,5 +1,5 @@
 #!/usr/bin/env python3
-"""Asks the four proved programs about a circuit and says their answers in words.
+"""Asks the four programs over the proved library about a circuit and says their answers in words.
 
     tools/ask.py times circuit.txt 0,1                       values and settling times under a vector
     tools/ask.py times circuit.txt                           one line for each vector, of at most 6 inputs
