@@ -1,4 +1,4 @@
--- What `any`, `all`, `keep`, `concatMap` and `map` say of the members of a list. Assumes nothing.
+-- What `any`, `all`, `keep`, `concatMap`, `map` and `upFrom` say of the members of a list. Assumes nothing.
 use mathlib.Core.Path.{_≡_, refl, sym, ap, ap₂, _∙_, subst}
 use mathlib.Core.Bool.{Bool, true, false, _&&_, _||_, cond}
 use mathlib.Core.List.{
@@ -7,6 +7,7 @@ use mathlib.Core.List.{
   _∷_,
   _++_,
   map,
+  append-assoc,
   List·Memᴰ,
   List·Memᴰ·head,
   List·Memᴰ·tail,
@@ -88,6 +89,11 @@ module _ {A : Type 0} where
 -- ---- concatMap and map
 
 module _ {A B : Type 0} where
+  pub concatMap-append : (f : A → List B) (l m : List A) → concatMap f (l ++ m) ≡ concatMap f l ++ concatMap f m
+  concatMap-append f [] m = refl
+  concatMap-append f (x ∷ l) m =
+      ap (λ (t : List B). f x ++ t) (concatMap-append f l m) ∙ sym (append-assoc (f x) (concatMap f l) (concatMap f m))
+
   pub all-concatMap : (p : B → Bool) (f : A → List B) (l : List A) →
       all p (concatMap f l) ≡ all (λ x. all p (f x)) l
   all-concatMap p f [] = refl
@@ -133,6 +139,12 @@ module _ {A B : Type 0} where
           (z : A) × List·Memᴰ z (x ∷ l) × List·Memᴰ y (f z)
       go (inl i) r = (x, List·Memᴰ·head refl, i)
       go (inr i) r = let w = r i in (w .0, List·Memᴰ·tail (w .1), w .2)
+
+  pub mem-concatMap : (f : A → List B) (l : List A) (x : A) (y : B) → List·Memᴰ x l → List·Memᴰ y (f x) →
+      List·Memᴰ y (concatMap f l)
+  mem-concatMap f (z ∷ l) x y (List·Memᴰ·head e) i =
+      Memᴰ·append-left (concatMap f l) (subst (λ a. List·Memᴰ y (f a)) e i)
+  mem-concatMap f (z ∷ l) x y (List·Memᴰ·tail m) i = Memᴰ·append-right (f z) (mem-concatMap f l x y m i)
 
 -- ---- keep
 

@@ -2,7 +2,7 @@
 use mathlib.Core.Path.{_≡_, refl, ap}
 use mathlib.Core.Bool.{Bool, true, false, not, _&&_, _||_}
 use Prim.Native.Nat.{ℕ, _+_, _-_, _<_, max, min}
-use lib.Dec.{T, leb, leb→le, le→leb, nleb→lt}
+use lib.Dec.{leb, leb→le, le→leb, nleb→lt}
 use native.Mathlib.Omega.{arith}
 use Rattle.basics.proofs.Truth.{both-ways, is-true, is-false, holds, and-both, and-left, and-right}
 

@@ -1,2 +1,2 @@
-// Truth values, tests over lists, and order: the definitions (specs/) and laws (proofs/) that every other crate shares.
-// There is no code here.
+// Truth values, tests over lists, order and tables: the definitions (specs/) and laws (proofs/) that other crates
+// share. There is no code here.

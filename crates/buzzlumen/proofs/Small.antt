@@ -1,26 +1,24 @@
 -- A formula's variables fit 32 bits: an accepted netlist has at most 512 nodes, a table at most 65,536 pairs.
 -- Assumes nothing.
 use mathlib.Core.Path.{_≡_, refl}
-use mathlib.Core.Bool.{Bool, true, false}
+use mathlib.Core.Bool.{Bool, true, false, cond}
 use mathlib.Core.List.{List}
-use Prim.Native.Nat.{ℕ, _+_, _/_, _≤_, _<_, min}
+use Prim.Native.Nat.{ℕ, _≤_}
 use native.Mathlib.Omega.{arith}
 use lib.Dec.{ltb}
 use lib.ListN.{length}
 use borrow.Author.Tests.{ltb-false}
 use Rattle.refusal.specs.declared.Refusal.the-variants.{Pairs, Room}
-use Rattle.netlist.specs.declared.Shape.{Shape}
 use Rattle.netlist.specs.declared.Opened.{Opened}
 use Rattle.netlist.specs.declared.Opened.the-variants.{Accepted, Refused as Rejected}
 use Rattle.netlist.specs.Netlist.{Netlist, nodeCount}
 use Rattle.netlist.specs.File.{netlistAt}
 use Rattle.netlist.specs.Open.{openOf}
-use Rattle.netlist.specs.Holds.{Holds}
 use Rattle.netlist.proofs.Accepted.{holds}
 use Rattle.netlist.proofs.Entries.{node-count}
 use Rattle.settle.specs.Settling.{atZero}
 use Rattle.pairs.specs.Pairs.{pairsFor}
-use Rattle.formula.specs.Promise.{numbersFor, countsFor, tableHolds, refused, row, built, buildingBy}
+use Rattle.formula.specs.Promise.{numbersFor, countsFor, tableHolds, refused, built, buildingBy}
 use Rattle.formula.specs.Promise.{buildingOf, building}
 use Rattle.buzzlumen.specs.Answers.{Small}
 
@@ -33,8 +31,8 @@ of-netlist net target pairsRoom formulaRoom few =
   where
     go : (many long : Bool) → ltb (tableHolds pairsRoom) (length (pairsFor net (atZero net) target)) ≡ many →
         Small
-        (row many (refused pairsRoom formulaRoom Pairs)
-        (row long (refused pairsRoom formulaRoom (Room (length (numbersFor net target))))
+        (cond many (refused pairsRoom formulaRoom Pairs)
+        (cond long (refused pairsRoom formulaRoom (Room (length (numbersFor net target))))
         (built net target pairsRoom formulaRoom)) .answer)
     go true long e = tt
     go false true e = tt

@@ -1,7 +1,7 @@
 -- What an accepted certificate says: a vector settles at d; were another to settle later, demand 3 would give a
 -- solution of the formula for d+1, and a refutation that passes and has the empty clause leaves none. Laws: accepted,
 -- numbers-accepted. Assumes nothing.
-use mathlib.Core.Path.{_≡_, sym, subst}
+use mathlib.Core.Path.{_≡_, subst}
 use mathlib.Core.Bool.{Bool}
 use mathlib.Core.List.{List, [], List·Memᴰ}
 use mathlib.Core.Logic.{_⊎_, inl, inr}
@@ -20,7 +20,7 @@ use Rattle.refute.proofs.Sound.{no-solution}
 use Rattle.formula.specs.Formula.{formulaFor}
 use Rattle.formula.specs.Promise.{numbersFor}
 use Rattle.certificate.specs.Largest.{Largest}
-use Rattle.certificate.proofs.Demand.{demand3}
+use Rattle.certificate.proofs.Demand.{demand-at}
 use Rattle.certificate.proofs.Numbers.{numbers-read}
 
 module _ (net : Netlist) (ok : T (valid net)) (arrivals : List ℕ) (as-many : length arrivals ≡ net .inputs) where
@@ -40,7 +40,7 @@ module _ (net : Netlist) (ok : T (valid net)) (arrivals : List ℕ) (as-many : l
           ⊎ (T (leb (suc delay) (circuitTime net arrivals other)) → ⊥) → circuitTime net arrivals other ≤ delay
       pick other e (inl late) =
           let s =
-          demand3 net ok arrivals as-many other e (suc delay) .1
+          demand-at net ok arrivals as-many other e (suc delay) .1
           (subst T (circuit-late net arrivals other delay) late)
           in
           absurd

@@ -2,7 +2,7 @@
 -- node settles that late solves the formula. A gate that settles late has, by the gate argument, late pins and no cube
 -- in time, and that is what its pair's clauses say. Law: complete. Assumes nothing.
 use mathlib.Core.Path.{_≡_, sym, ap, _∙_, subst}
-use mathlib.Core.Bool.{Bool, true, false, not, _&&_, _||_, Bool·beq, cond}
+use mathlib.Core.Bool.{Bool, not, _&&_, _||_, Bool·beq, cond}
 use mathlib.Core.List.{List, List·Memᴰ}
 use mathlib.Core.Logic.{_⊎_, inl, inr}
 use Prim.Native.Nat.{ℕ, zero, suc, _-_, _≤_, _<_}

@@ -1,8 +1,8 @@
--- Demand 3 over integers, of every valid netlist: the facts of its nodes and pairs are those that Sound and Complete
+-- Demand 3 of every valid netlist: the facts of its nodes and pairs are those that Sound and Complete
 -- ask for; the assignment of a vector gives a node's variable its value and the variable at a pair's place whether the
--- pair's node settles that late. Laws: demand3, demand. Assumes nothing.
+-- pair's node settles that late. Laws: demand-at (of one vector and target), demand. Assumes nothing.
 use mathlib.Core.Path.{_≡_, sym, ap, _∙_}
-use mathlib.Core.Bool.{Bool, true, false, cond}
+use mathlib.Core.Bool.{Bool, false, cond}
 use mathlib.Core.List.{List, List·Memᴰ}
 use mathlib.Core.Logic.{_↔_}
 use Prim.Native.Nat.{ℕ, zero, suc, _+_, _-_, _<_}
@@ -64,9 +64,9 @@ module _ (net : Netlist) (ok : T (valid net)) (arrivals : List ℕ) (as-many : l
 
   -- "an input vector can be completed to a solution of the formula exactly when some output settles at that time or
   -- later"
-  pub demand3 : Solution net arrivals vector target ↔ T (someLate net arrivals vector target)
+  pub demand-at : Solution net arrivals vector target ↔ T (someLate net arrivals vector target)
   unfolding formulaFor
-  demand3 = (to, of)
+  demand-at = (to, of)
     where
       to : Solution net arrivals vector target → T (someLate net arrivals vector target)
       to s =
@@ -86,4 +86,4 @@ module _ (net : Netlist) (ok : T (valid net)) (arrivals : List ℕ) (as-many : l
 -- demand 3, as specs/Demand states it
 pub demand : (net : Netlist) → T (valid net) → (arrivals : List ℕ) → length arrivals ≡ net .inputs → Demand net arrivals
 demand net ok arrivals as-many =
-    record { completes = λ vector as-long target. demand3 net ok arrivals as-many vector as-long target }
+    record { completes = λ vector as-long target. demand-at net ok arrivals as-many vector as-long target }

@@ -1,27 +1,14 @@
 -- The promise of judge can be met, whatever is judged: the rows say their refusal, or the computed verdict is the
 -- verdict. So each row of specs/Cases is a computation read as the promise, and circuit A's largest settling time is
 -- 2, with no vector tried but one. Laws: judgement-exists, cases-hold, largest-of-A. Assumes nothing.
-use mathlib.Core.Path.{_≡_, refl, sym, ap, _∙_, subst}
-use mathlib.Core.Bool.{Bool, true, false, not, _&&_, _||_, cond}
-use mathlib.Core.List.{
-  List,
-  [],
-  _∷_,
-  map,
-  List·Memᴰ,
-  List·Memᴰ·head,
-  List·Memᴰ·tail,
-  List·Memᴰ·not-nil,
-  head-eq-of-cons-eq,
-  tail-eq-of-cons-eq,
-}
+use mathlib.Core.Path.{_≡_, refl, _∙_}
+use mathlib.Core.List.{List, map, List·Memᴰ, List·Memᴰ·head}
 use Prim.Native.Nat.{ℕ, suc}
-use lib.Dec.{T}
-use lib.IntN.{ℤ, pos}
+use lib.IntN.{ℤ}
 use Rattle.basics.proofs.Lists.{map-each}
-use Rattle.netlist.specs.Netlist.{Netlist, valid}
+use Rattle.netlist.specs.Netlist.{Netlist}
 use Rattle.netlist.specs.Kinds.{fewest, most, kindOf}
-use Rattle.netlist.specs.File.{tableBytes, shapeOf, gateAt, pinAt, cellOf, cellAt, netlistAt, netlistOf}
+use Rattle.netlist.specs.File.{tableBytes, shapeOf, gateAt, pinAt, cellOf, cellAt, netlistAt, netlistOf, pinsFrom}
 use Rattle.netlist.specs.Open.{
   openOf,
   firstWrong,
@@ -163,8 +150,8 @@ answerTo c = answered (checkedTo (c .file) (c .delay) (c .vector) (c .refutation
 computed : map answerTo cases ≡ map (λ (c : Case). c .answer) cases
 unfolding
     cases circuitA wire openOf firstWrong countWrong backWrong pinsBefore gateWrong gatePlace sumWrong pinsAt
-    pinWrong pinPlace outputWrong outputPlace fewest most kindOf tableBytes shapeOf gateAt pinAt cellOf cellAt netlistAt
-    gateValue settles grow valuesOf timesOf topsOf circuitTime settled byteWrong evaluationOf flat clausesFrom
+    pinWrong pinPlace outputWrong outputPlace fewest most kindOf tableBytes shapeOf gateAt pinAt pinsFrom cellOf cellAt
+    netlistAt gateValue settles grow valuesOf timesOf topsOf circuitTime settled byteWrong evaluationOf flat clausesFrom
     isTrue isFree assign say pass refutes assert follows verdict refutationRow firstBeyond ended lastRow firstEmpty
     roomRow asked timesAt pairList placeOf pairsFor clauseOf gateClauses late pairClauses formula pairVariable
     formulaFor numbersFor countsFor built buildingOf certificateRows rowsOf

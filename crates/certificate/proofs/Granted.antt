@@ -2,13 +2,12 @@
 -- refutation's verdict is that it passes, so the delay is the largest settling time. Laws: accepted-passes,
 -- certificate-largest, judges-largest. Assumes nothing.
 use mathlib.Core.Path.{_≡_, refl, sym, ap, _∙_, subst}
-use mathlib.Core.Bool.{Bool}
 use mathlib.Core.List.{List}
 use Prim.Native.Nat.{ℕ, suc}
 use native.Mathlib.Omega.{arith}
 use lib.Dec.{T, eqb}
 use lib.IntN.{ℤ}
-use lib.ListN.{length, length-map}
+use lib.ListN.{length-map}
 use Rattle.netlist.specs.declared.Shape.{Shape}
 use Rattle.netlist.specs.declared.Opened.the-variants.{Accepted as Taken}
 use Rattle.netlist.specs.Netlist.{Netlist, valid}
@@ -26,8 +25,7 @@ use Rattle.refute.specs.Rows.{andThen, refutationRows}
 use Rattle.refute.specs.Promise.{Answers, malformed, accepted as sound, step}
 use Rattle.refute.proofs.Judging.{then-first, then-rest}
 use Rattle.formula.specs.Promise.{numbersFor, countsFor, buildingOf}
-use Rattle.certificate.specs.declared.Judged.{Judged}
-use Rattle.certificate.specs.declared.Judged.the-variants.{Accepted, Refused}
+use Rattle.certificate.specs.declared.Judged.the-variants.{Accepted}
 use Rattle.certificate.specs.Largest.{Largest}
 use Rattle.certificate.specs.Promise.{
   Rooms,
@@ -37,7 +35,6 @@ use Rattle.certificate.specs.Promise.{
   builtRow,
   certificateRows,
   rowsOf,
-  accepted,
   judgementOf,
   Decides,
   Judges,

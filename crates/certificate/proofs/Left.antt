@@ -1,6 +1,6 @@
 -- Demand 3 of the very numbers that `build` leaves: where it answers with counts, the first `numbers` of the formula
--- slice read back as the formula. Laws: demand3-of-numbers, demand3-of-build. Assumes nothing.
-use mathlib.Core.Path.{_≡_, refl, sym, ap, _∙_, subst}
+-- slice read back as the formula. Laws: demand-of-numbers, demand-of-build. Assumes nothing.
+use mathlib.Core.Path.{_≡_, refl, sym, ap, subst}
 use mathlib.Core.Bool.{Bool}
 use mathlib.Core.List.{List}
 use mathlib.Core.Logic.{_↔_}
@@ -9,8 +9,6 @@ use native.Mathlib.Omega.{arith}
 use lib.Dec.{T}
 use lib.IntN.{ℤ}
 use lib.ListN.{length, take, length-replicate}
-use Rattle.refusal.specs.declared.Refusal.{Refusal}
-use Rattle.netlist.specs.declared.Shape.{Shape}
 use Rattle.netlist.specs.declared.Opened.{Opened}
 use Rattle.netlist.specs.declared.Opened.the-variants.{Accepted as Taken, Refused as Untaken}
 use Rattle.netlist.specs.Netlist.{Netlist, valid}
@@ -22,20 +20,20 @@ use Rattle.formula.specs.declared.Counts.{Counts}
 use Rattle.formula.specs.declared.Built.the-variants.{Formula, Refused as Unbuilt}
 use Rattle.formula.specs.Promise.{numbersFor, Building, buildingOf, buildingBy, building}
 use Rattle.certificate.specs.Demand.{Completes, someLate}
-use Rattle.certificate.proofs.Demand.{demand3}
+use Rattle.certificate.proofs.Demand.{demand-at}
 use Rattle.certificate.proofs.Numbers.{numbers-read}
 use Rattle.certificate.proofs.Granted.{opened-netlist, opened-valid}
 use Rattle.certificate.proofs.Steps.{formed}
 
 -- of the formula's numbers, with all arrivals zero
-pub demand3-of-numbers : (net : Netlist) → T (valid net) → (target : ℕ) (vector : List Bool) →
+pub demand-of-numbers : (net : Netlist) → T (valid net) → (target : ℕ) (vector : List Bool) →
     length vector ≡ net .inputs →
     Completes net vector (clausesOf (numbersFor net target)) ↔ T (someLate net (atZero net) vector target)
-demand3-of-numbers net ok target vector as-long =
+demand-of-numbers net ok target vector as-long =
     subst
     (λ (clauses : List (List Literal)). Completes net vector clauses ↔ T (someLate net (atZero net) vector target))
     (sym (numbers-read net ok target))
-    (demand3 net ok (atZero net) (length-replicate (net .inputs) 0) vector as-long target)
+    (demand-at net ok (atZero net) (length-replicate (net .inputs) 0) vector as-long target)
 
 -- a building that answers with counts is of an accepted file
 built-opened : (file : List ℕ) (target pairsRoom formulaRoom : ℕ) (counts : Counts) →
@@ -58,13 +56,13 @@ built-opened file target pairsRoom formulaRoom counts = go (openOf file) refl
     )
 
 -- of what `build` answers and leaves, for any bytes
-pub demand3-of-build : (file : List ℕ) (target pairsRoom formulaRoom : ℕ) (counts : Counts) →
+pub demand-of-build : (file : List ℕ) (target pairsRoom formulaRoom : ℕ) (counts : Counts) →
     building file target pairsRoom formulaRoom .answer ≡ Formula counts →
     (vector : List Bool) → length vector ≡ netlistOf file .inputs →
     Completes (netlistOf file) vector
     (clausesOf (take (counts .numbers) (building file target pairsRoom formulaRoom .formula)))
     ↔ T (someLate (netlistOf file) (atZero (netlistOf file)) vector target)
-demand3-of-build file target pairsRoom formulaRoom counts e vector as-long =
+demand-of-build file target pairsRoom formulaRoom counts e vector as-long =
     let opened = built-opened file target pairsRoom formulaRoom counts e in
     let front =
     formed pairsRoom formulaRoom (opened .0) (ap (λ (b : Building). b .answer) (opened .1))
@@ -74,4 +72,4 @@ demand3-of-build file target pairsRoom formulaRoom counts e vector as-long =
     (λ (numbers : List ℤ).
     Completes (netlistOf file) vector (clausesOf numbers)
     ↔ T (someLate (netlistOf file) (atZero (netlistOf file)) vector target))
-    (sym (front .numbers-are)) (demand3-of-numbers (netlistOf file) (opened .0) target vector as-long)
+    (sym (front .numbers-are)) (demand-of-numbers (netlistOf file) (opened .0) target vector as-long)

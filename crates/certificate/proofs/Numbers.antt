@@ -1,18 +1,18 @@
 -- The formula as numbers: since every variable is 1 to V, the flat list reads back as the clauses, no number is beyond
 -- V in magnitude, and it is empty or ends in 0. Laws: numbers-read, numbers-well-formed. Assumes nothing.
-use mathlib.Core.Path.{_≡_, refl, sym, ap, _∙_, subst}
-use mathlib.Core.Bool.{Bool, true, false, _&&_, cond}
+use mathlib.Core.Path.{_≡_, sym, ap, _∙_, subst}
+use mathlib.Core.Bool.{Bool, true, false}
 use mathlib.Core.List.{List, [], _∷_, _++_, map}
 use Prim.Native.Nat.{ℕ, zero, suc, _+_, _-_, _≤_, _<_}
 use native.Mathlib.Omega.{arith}
 use lib.Dec.{T, leb, ltb, eqb, leb·zero}
-use lib.IntN.{ℤ, pos, negsuc, negℤ}
+use lib.IntN.{ℤ, pos}
 use lib.ListN.{length, getD, length-append}
 use lib.Seq.{getD-append-add}
 use Rattle.basics.specs.Lists.{all}
 use Rattle.basics.proofs.Truth.{and-both, and-left, and-right}
 use Rattle.basics.proofs.Lists.{all-join, all-mono}
-use Rattle.netlist.specs.Netlist.{Netlist, nodeCount, valid}
+use Rattle.netlist.specs.Netlist.{Netlist, valid}
 use Rattle.netlist.proofs.Valid.{valid-inputs-few, valid-gates-few}
 use Rattle.settle.specs.Settling.{atZero}
 use Rattle.clauses.specs.Clauses.{Literal, numberOf, flat, clausesOf}

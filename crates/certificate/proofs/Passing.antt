@@ -2,17 +2,17 @@
 -- delay; the formula has at most 65,536 pairs, fits its slice and fills its front; the refutation has an empty clause.
 -- Each row is taken apart by its own test. Laws: opened-passes, witness-passes, settled-says, built-passes,
 -- built-says, last-passes, refutation-passes. Assumes nothing.
-use mathlib.Core.Path.{_≡_, refl, sym, ap, _∙_}
+use mathlib.Core.Path.{_≡_, refl, ap}
 use mathlib.Core.Bool.{Bool, true, false, not, cond}
-use mathlib.Core.List.{List, [], _∷_, _++_, map, List·Memᴰ, List·Memᴰ·head, List·Memᴰ·tail}
-use Prim.Native.Nat.{ℕ, suc, _-_, _*_, _≤_, _<_}
+use mathlib.Core.List.{List, [], _∷_, _++_, List·Memᴰ, List·Memᴰ·head, List·Memᴰ·tail}
+use Prim.Native.Nat.{ℕ, suc, _-_, _≤_, _<_}
 use native.Mathlib.Omega.{arith}
 use lib.Dec.{eqb, ltb}
 use lib.IntN.{ℤ, pos}
 use lib.ListN.{length, replicate}
 use borrow.Author.Tests.{eqb-true, ltb-false}
 use Rattle.refusal.specs.declared.Refusal.{Refusal}
-use Rattle.refusal.specs.declared.Refusal.the-variants.{Vector, Room, Pairs, Witness, Last, Refutation}
+use Rattle.refusal.specs.declared.Refusal.the-variants.{Vector, Room, Pairs, Witness, Last}
 use Rattle.netlist.specs.declared.Shape.{Shape}
 use Rattle.netlist.specs.declared.Opened.{Opened}
 use Rattle.netlist.specs.declared.Opened.the-variants.{Accepted as Taken, Refused as Untaken}
@@ -20,9 +20,8 @@ use Rattle.netlist.specs.Netlist.{Netlist, nodeCount}
 use Rattle.settle.specs.declared.Settled.{Settled}
 use Rattle.settle.specs.declared.Settled.the-variants.{At, Refused as Unsettled}
 use Rattle.settle.specs.Settling.{atZero, circuitTime}
-use Rattle.settle.specs.Promise.{bits, byteWrong, row, refused, settled, evaluationOf}
+use Rattle.settle.specs.Promise.{bits, byteWrong, refused, settled, evaluationOf}
 use Rattle.clauses.specs.Clauses.{Literal, clausesOf}
-use Rattle.refute.specs.declared.Checked.{Checked}
 use Rattle.refute.specs.declared.Checked.the-variants.{Passes, Refused as Fails}
 use Rattle.refute.specs.Rows.{andThen, refutationRow, lastRow, roomRow, refutationRows, firstEmpty}
 use Rattle.refute.proofs.Judging.{then-first, then-rest}
@@ -36,7 +35,6 @@ use Rattle.formula.specs.Promise.{
   countsFor,
   built,
   buildingOf,
-  row as builtOr,
   refused as unbuilt,
 }
 use Rattle.certificate.specs.Promise.{openedRow, witnessRow, builtRow}
@@ -75,10 +73,10 @@ settled-says net vector valuesRoom timesRoom time =
     at-one a b e = cc
 
     go : (a b c d : Bool) → eqb (length vector) (net .inputs) ≡ a →
-        row (not a) (refused valuesRoom timesRoom (Vector (net .inputs)))
-        (row b (refused valuesRoom timesRoom (Vector (byteWrong vector)))
-        (row c (refused valuesRoom timesRoom (Room (nodeCount net)))
-        (row d (refused valuesRoom timesRoom (Room (nodeCount net)))
+        cond (not a) (refused valuesRoom timesRoom (Vector (net .inputs)))
+        (cond b (refused valuesRoom timesRoom (Vector (byteWrong vector)))
+        (cond c (refused valuesRoom timesRoom (Room (nodeCount net)))
+        (cond d (refused valuesRoom timesRoom (Room (nodeCount net)))
         (settled net vector valuesRoom timesRoom)))) .answer
         ≡ At time → (length vector ≡ net .inputs) × (circuitTime net (atZero net) (bits vector) ≡ time)
     go true false false false p e =
@@ -118,8 +116,8 @@ built-says net target pairsRoom formulaRoom counts =
 
     go : (a b : Bool) → ltb (tableHolds pairsRoom) (length (pairsFor net (atZero net) target)) ≡ a →
         ltb formulaRoom (length (numbersFor net target)) ≡ b →
-        builtOr a (unbuilt pairsRoom formulaRoom Pairs)
-        (builtOr b (unbuilt pairsRoom formulaRoom (Room (length (numbersFor net target))))
+        cond a (unbuilt pairsRoom formulaRoom Pairs)
+        (cond b (unbuilt pairsRoom formulaRoom (Room (length (numbersFor net target))))
         (built net target pairsRoom formulaRoom)) .answer
         ≡ Formula counts → BuiltWell net target pairsRoom formulaRoom counts
     go false false p q e =

@@ -7,7 +7,7 @@ use mathlib.Core.Path.{_≡_, refl, sym, ap, ap₂, _∙_}
 use mathlib.Core.Bool.{Bool, true, false, not, _&&_, _||_, Bool·beq, cond}
 use mathlib.Core.List.{List, [], _∷_, _++_, map, List·Memᴰ}
 use mathlib.Core.Logic.{_⊎_, inl, inr}
-use Prim.Native.Nat.{ℕ, zero, _-_}
+use Prim.Native.Nat.{ℕ, zero}
 use native.Mathlib.Omega.{arith}
 use lib.Dec.{T, leb, ltb}
 use lib.ListN.{length}
@@ -160,10 +160,10 @@ module _ {X : Type 0} (node : ℕ → X) (σ : X → Bool) where
       (driverTrue q)
       (σ (node f))
       equal
-  gate-says (Parity equal) [] f t = let e = takes-parity equal 0 t in absurd (omega arith)
-  gate-says (Parity equal) (p ∷ []) f t = let e = takes-parity equal 1 t in absurd (omega arith)
+  gate-says (Parity equal) [] f t = let e = takes-parity {equal = equal} 0 refl t in absurd (omega arith)
+  gate-says (Parity equal) (p ∷ []) f t = let e = takes-parity {equal = equal} 1 refl t in absurd (omega arith)
   gate-says (Parity equal) (p ∷ q ∷ r ∷ ps) f t =
-      let e = takes-parity equal (length (p ∷ q ∷ r ∷ ps)) t in absurd (omega arith)
+      let e = takes-parity {equal = equal} (length (p ∷ q ∷ r ∷ ps)) refl t in absurd (omega arith)
   gate-says Mux (s ∷ a ∷ b ∷ []) f t =
       by-table-of-four
       (λ s a b z.
@@ -176,11 +176,11 @@ module _ {X : Type 0} (node : ℕ → X) (σ : X → Bool) where
       (driverTrue a)
       (driverTrue b)
       (σ (node f))
-  gate-says Mux [] f t = let e = takes-mux 0 t in absurd (omega arith)
-  gate-says Mux (s ∷ []) f t = let e = takes-mux 1 t in absurd (omega arith)
-  gate-says Mux (s ∷ a ∷ []) f t = let e = takes-mux 2 t in absurd (omega arith)
+  gate-says Mux [] f t = let e = takes-mux 0 refl t in absurd (omega arith)
+  gate-says Mux (s ∷ []) f t = let e = takes-mux 1 refl t in absurd (omega arith)
+  gate-says Mux (s ∷ a ∷ []) f t = let e = takes-mux 2 refl t in absurd (omega arith)
   gate-says Mux (s ∷ a ∷ b ∷ c ∷ ps) f t =
-      let e = takes-mux (length (s ∷ a ∷ b ∷ c ∷ ps)) t in absurd (omega arith)
+      let e = takes-mux (length (s ∷ a ∷ b ∷ c ∷ ps)) refl t in absurd (omega arith)
 
 -- ---- some pin is late, and each controlling cube has a late or a false literal
 

@@ -1,8 +1,8 @@
 -- From a solution to a late output: in a solution whose inputs are the vector's, each node's variable is its value,
 -- node after node, and each listed pair that is true is of a node that settles that late, again node after node: its
 -- clauses name late drivers, and the gate argument makes the gate late. Law: sound. Assumes nothing.
-use mathlib.Core.Path.{_≡_, sym, ap, _∙_, subst}
-use mathlib.Core.Bool.{Bool, true, false, not, _&&_, _||_, Bool·beq, cond}
+use mathlib.Core.Path.{_≡_, sym, _∙_, subst}
+use mathlib.Core.Bool.{Bool, not, _&&_, _||_, Bool·beq, cond}
 use mathlib.Core.List.{List, List·Memᴰ}
 use mathlib.Core.Logic.{_⊎_, inl, inr}
 use Prim.Native.Nat.{ℕ, zero, suc, _-_, _≤_, _<_}

@@ -3,11 +3,10 @@
 -- witnessed-late, witnessed-refused, delay-small; formed, refutes-refused, refutes-tested; decides-refused,
 -- decides-tested, decides-accepted; judges-refused, judges-opened. Assumes nothing.
 use mathlib.Core.Path.{_≡_, refl, sym, ap, ap₂, _∙_, subst}
-use mathlib.Core.Bool.{Bool, true, false, cond}
-use mathlib.Core.List.{List, [], _∷_, _++_}
-use Prim.Native.Nat.{ℕ, suc, _+_, _-_, _≤_, _<_}
+use mathlib.Core.List.{List}
+use Prim.Native.Nat.{ℕ, suc, _-_, _≤_}
 use native.Mathlib.Omega.{arith}
-use lib.Dec.{T, eqb}
+use lib.Dec.{T}
 use lib.IntN.{ℤ, pos}
 use lib.ListN.{length, take, replicate, length-append}
 use lib.Seq.{take-at}
@@ -24,7 +23,7 @@ use Rattle.settle.specs.declared.Settled.{Settled}
 use Rattle.settle.specs.declared.Settled.the-variants.{At, Refused as Unsettled}
 use Rattle.settle.specs.Promise.{bits, evaluationOf}
 use Rattle.settle.proofs.Nodes.{circuit-small}
-use Rattle.clauses.specs.Clauses.{Literal, clausesOf}
+use Rattle.clauses.specs.Clauses.{clausesOf}
 use Rattle.refute.specs.declared.Checked.{Checked}
 use Rattle.refute.specs.declared.Checked.the-variants.{Passes, Refused as Fails}
 use Rattle.refute.specs.Rows.{andThen, refutationRows, WellFormed}
@@ -34,7 +33,7 @@ use Rattle.formula.specs.declared.Built.{Built}
 use Rattle.formula.specs.declared.Built.the-variants.{Formula, Refused as Unbuilt}
 use Rattle.formula.specs.Promise.{numbersFor, countsFor, buildingOf}
 use Rattle.certificate.specs.declared.Judged.{Judged}
-use Rattle.certificate.specs.declared.Judged.the-variants.{Accepted, Refused}
+use Rattle.certificate.specs.declared.Judged.the-variants.{Accepted}
 use Rattle.certificate.specs.Promise.{
   Rooms,
   Judgement,
@@ -52,7 +51,7 @@ use Rattle.certificate.specs.Promise.{
 }
 use Rattle.certificate.specs.Steps.{Zeroed, Witnessed, Refutes}
 use Rattle.certificate.proofs.Numbers.{numbers-well-formed}
-use Rattle.certificate.proofs.Passing.{BuiltWell, built-says, witness-passes, settled-says}
+use Rattle.certificate.proofs.Passing.{built-says, witness-passes, settled-says}
 use Rattle.certificate.proofs.Granted.{opened-netlist}
 
 -- ---- the vector's part

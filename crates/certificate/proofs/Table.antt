@@ -1,6 +1,6 @@
 -- The one statement over the one table: every row stands. Each kind of row was computed beside its definitions.
 -- Assumes nothing.
-use mathlib.Core.Path.{_≡_, sym, subst}
+use mathlib.Core.Path.{sym, subst}
 use mathlib.Core.List.{List, _++_, map, List·Memᴰ, List·Memᴰ·append-cases}
 use mathlib.Core.Logic.{_⊎_, inl, inr}
 use lib.ListN.{length}
@@ -10,9 +10,9 @@ use Rattle.settle.specs.Promise.{evaluation}
 use Rattle.settle.specs.Cases.{Case as Settling, cases as settlings, cases-hold as settlings-hold}
 use Rattle.formula.specs.Promise.{building}
 use Rattle.formula.specs.Cases.{Case as Forming, cases as formings, hold as formings-hold}
-use Rattle.refute.specs.Examples.{Case as Checking, cases as checkings, Following, followings}
+use Rattle.refute.specs.Examples.{cases as checkings, followings}
 use Rattle.refute.proofs.Examples.{cases-hold as checkings-hold, followings-hold}
-use Rattle.certificate.specs.Cases.{Case as Certifying, cases as certifyings}
+use Rattle.certificate.specs.Cases.{cases as certifyings}
 use Rattle.certificate.specs.Table.{Row, settles, forms, checks, follows, certifies, Stands, table}
 use Rattle.certificate.proofs.Examples.{cases-hold as certifyings-hold}
 

@@ -2,7 +2,7 @@
 -- that stand in it, over any kind of variables. So the numbers of a valid netlist's formula run from 1 to V = N +
 -- pairs: a pair's place is below the number of pairs. Laws: formula-allowed, formula-variables. Assumes nothing.
 use mathlib.Core.Path.{_≡_, refl, sym, ap, subst}
-use mathlib.Core.Bool.{Bool, true, false, not, _&&_, _||_, cond}
+use mathlib.Core.Bool.{Bool, true, false, not, _&&_, cond}
 use mathlib.Core.List.{
   List,
   [],
@@ -23,7 +23,7 @@ use Rattle.basics.proofs.Truth.{is-true, and-both, and-left, and-right}
 use Rattle.basics.proofs.Lists.{all-of, all-join, all-concatMap-of, map-mem, concatMap-mem}
 use Rattle.netlist.specs.declared.Kind.{Kind}
 use Rattle.netlist.specs.declared.Kind.the-variants.{Simple, Parity, Mux}
-use Rattle.netlist.specs.Netlist.{Netlist, Cell, Pin, nodes, nodeCount, valid}
+use Rattle.netlist.specs.Netlist.{Netlist, Cell, Pin, nodeCount, valid}
 use Rattle.settle.specs.Cubes.{Cube, cubes}
 use Rattle.settle.proofs.Cubes.{cube-pin}
 use Rattle.settle.proofs.Nodes.{Laid, laid}

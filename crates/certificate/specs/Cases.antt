@@ -18,10 +18,12 @@ pub record Case : Type 0 where
   pub rooms : Rooms
   pub answer : Judged
 
+-- the rooms, in the order of the slices
 abbrev pub lending : ℕ → ℕ → ℕ → ℕ → ℕ → Rooms
 lending values times pairs formula propagation =
     record { values = values; times = times; pairs = pairs; formula = formula; propagation = propagation }
 
+-- a call and its answer
 abbrev pub case : List ℕ → ℕ → List ℕ → List ℤ → Rooms → Judged → Case
 case file delay vector refutation rooms answer =
     record {

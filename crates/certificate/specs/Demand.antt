@@ -7,7 +7,7 @@ use Prim.Native.Nat.{ℕ, _<_}
 use lib.Dec.{T, leb}
 use lib.ListN.{length, getD}
 use Rattle.basics.specs.Lists.{any}
-use Rattle.netlist.specs.Netlist.{Netlist, valid}
+use Rattle.netlist.specs.Netlist.{Netlist}
 use Rattle.settle.specs.Settling.{timeOf}
 use Rattle.clauses.specs.Clauses.{Literal, satisfies}
 use Rattle.formula.specs.Formula.{nodeVariable, formulaFor}

@@ -1,5 +1,5 @@
 -- What a reader must believe of a certificate. Interface: Demand (demand 3), Largest (what an accepted delay is),
--- Promise (judge).
+-- Promise (judge); Cases and Table (document 01's cases). Steps serves the code.
 pub mod Demand
 pub mod Largest
 pub mod Promise

@@ -2,7 +2,7 @@
 -- values and times, 15, 10, room for the formula, 12, 13, room for propagation, 14." The rows of evaluation, of
 -- building and of the test of a refutation are those of crates settle, formula and refute. Interface: Judges.
 use mathlib.Core.Path.{_≡_}
-use mathlib.Core.Bool.{Bool, true, false, cond}
+use mathlib.Core.Bool.{cond}
 use mathlib.Core.List.{List}
 use Prim.Native.Nat.{ℕ, suc}
 use lib.Dec.{eqb}

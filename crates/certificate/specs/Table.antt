@@ -2,7 +2,7 @@
 -- beside the definitions that they are about; proofs/Table has the one statement over this table. Interface: Row,
 -- Stands, table.
 use mathlib.Core.Path.{_≡_}
-use mathlib.Core.List.{List, [], _∷_, _++_, map, List·Memᴰ}
+use mathlib.Core.List.{List, _++_, map, List·Memᴰ}
 use lib.ListN.{length}
 use Rattle.netlist.specs.Example.{circuitA}
 use Rattle.settle.specs.Promise.{evaluation}

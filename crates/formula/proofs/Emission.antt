@@ -2,11 +2,12 @@
 -- that were put, `left` those to come. Assumes nothing.
 use mathlib.Core.Path.{_≡_, refl, sym, ap, ap₂, _∙_, subst}
 use mathlib.Core.List.{List, [], _∷_, _++_, map, map-append, append-assoc, append-nil}
-use Prim.Native.Nat.{ℕ, suc, _+_, _*_, _≤_}
+use Prim.Native.Nat.{ℕ, _+_, _*_, _≤_}
 use native.Mathlib.Omega.{arith}
 use lib.IntN.{ℤ}
 use lib.ListN.{length, length-append, length-map}
 use Rattle.basics.specs.Lists.{concatMap}
+use Rattle.basics.proofs.Lists.{concatMap-append}
 use Rattle.clauses.specs.Codes.{written}
 use Rattle.clauses.proofs.Written.{written-append, written-length}
 use Rattle.formula.specs.declared.Emitted.{Emitted}
@@ -55,13 +56,6 @@ module _ {most : ℕ} {xs : List Token} {before now : List ℤ} {from at : Emitt
   emits-length a = ap length (a .is) ∙ written-length before (from .numbers) (map tokenCode xs)
 
 -- ---- one run for each entry of a list
-
-pub concatMap-append : {A B : Type 0} (f : A → List B) (xs ys : List A) →
-    concatMap f (xs ++ ys) ≡ concatMap f xs ++ concatMap f ys
-concatMap-append f [] ys = refl
-concatMap-append f (x ∷ xs) ys =
-    ap (λ (t : List _). f x ++ t) (concatMap-append f xs ys)
-    ∙ sym (append-assoc (f x) (concatMap f xs) (concatMap f ys))
 
 -- the loop's invariant: i entries are done, each with at most `each` tokens
 pub record Emitting {A : Type 0} (each : ℕ) (run : A → List Token) (whole left : List A) (i : ℕ)

@@ -1,22 +1,15 @@
 -- What is put for one gate is what the definition says, kind by kind. Assumes nothing.
-use mathlib.Core.Path.{_≡_, refl, sym, ap, ap₂, _∙_, subst}
+use mathlib.Core.Path.{_≡_, refl, sym, ap, _∙_}
 use mathlib.Core.Bool.{Bool, true, false, not}
 use mathlib.Core.List.{List, [], _∷_, _++_, map, append-assoc}
-use Prim.Native.Nat.{ℕ, suc, _+_, _≤_, _<_}
+use Prim.Native.Nat.{ℕ, suc, _+_}
 use native.Mathlib.Omega.{arith}
-use lib.Dec.{T}
-use Rattle.basics.specs.Lists.{concatMap, upFrom}
+use Rattle.basics.specs.Lists.{concatMap}
 use Rattle.netlist.specs.declared.Shape.{Shape}
 use Rattle.netlist.specs.declared.Kind.the-variants.{Simple, Parity, Mux}
-use Rattle.netlist.specs.declared.Kind.{Kind}
 use Rattle.netlist.specs.declared.Gate.{Gate}
-use Rattle.netlist.specs.Netlist.{Pin, Cell, nodes, takes, gateFits}
-use Rattle.netlist.specs.File.{gateAt, cellOf, cellAt, netlistAt}
-use Rattle.netlist.specs.Holds.{Holds}
-use Rattle.netlist.proofs.Entries.{node-has, pins-length}
-use Rattle.netlist.proofs.Valid.{valid-gates, fits-takes, takes-parity, takes-mux}
-use Rattle.basics.proofs.Lists.{all-at}
-use Rattle.netlist.specs.File.{pinAt}
+use Rattle.netlist.specs.Netlist.{Pin}
+use Rattle.netlist.specs.File.{gateAt, cellOf, cellAt, pinAt, pinsFrom}
 use Rattle.clauses.specs.Clauses.{Literal}
 use Rattle.clauses.specs.Codes.{literalCode}
 use Rattle.formula.specs.Formula.{nodeVariable, gateClauses}
@@ -26,7 +19,6 @@ use Rattle.formula.specs.Emission.{
   wants,
   ended,
   tokensOf,
-  pinsFrom,
   cellRun,
   forcedRun,
   driverRun,
@@ -87,13 +79,6 @@ module _ (c k : Bool) (node : ℕ) where
 
 -- ---- a parity gate and a multiplexer
 
--- a parity gate has two pins, a multiplexer three
-pub parity-pins : {kind : Kind} {equal : Bool} (count : ℕ) → kind ≡ Parity equal → T (takes kind count) → count ≡ 2
-parity-pins {kind} {equal} count e t = takes-parity equal count (subst (λ (k : Kind). T (takes k count)) e t)
-
-pub mux-pins : {kind : Kind} (count : ℕ) → kind ≡ Mux → T (takes kind count) → count ≡ 3
-mux-pins count e t = takes-mux count (subst (λ (k : Kind). T (takes k count)) e t)
-
 -- four clauses of three literals, by the literals' codes
 pub parity-codes : {p p′ q q′ g g′ : ℕ} (first second : ℕ) (equal : Bool) (node : ℕ) →
     p ≡ literalCode (true, suc first) → p′ ≡ literalCode (false, suc first) →
@@ -133,38 +118,14 @@ module _ (file : List ℕ) (shape : Shape) (first count node : ℕ) where
       let g : first + 2 ≡ suc (suc first) = omega arith in
       rw (e, f, g)
 
--- ---- a gate of an accepted file
+-- ---- a gate of a file
 
--- what the code reads of gate i
-pub record Read (file : List ℕ) (shape : Shape) (gate : Gate) : Type 0 where
-  pub within : gate .first + gate .count ≤ shape .pins
-  pub takes-them : T (takes (gate .kind) (gate .count))
-
-module _ (file : List ℕ) (shape : Shape) (ok : Holds file shape) (i : ℕ) (h : i < shape .gates) where
-  cell-takes : T (takes (gateAt file shape i .kind) (gateAt file shape i .count))
-  unfolding cellAt cellOf gateAt
-  cell-takes =
-      let net = netlistAt file shape in
-      let fits =
-      all-at gateFits (nodes net) (valid-gates net (ok .valid)) (shape .inputs + i, cellAt file shape i)
-      (node-has file shape i h)
-      in
-      subst (λ (n : ℕ). T (takes (cellAt file shape i .kind) n)) (pins-length file shape i)
-      (fits-takes (shape .inputs + i, cellAt file shape i) fits)
-
-  gate-within : gateAt file shape i .first + gateAt file shape i .count ≤ shape .pins
-  unfolding gateAt
-  gate-within = ok .pins-within i h
-
-  pub gate-read : (gate : Gate) → gate ≡ gateAt file shape i → Read file shape gate
-  gate-read gate e =
-      subst (λ (g : Gate). Read file shape g) (sym e) (record { within = gate-within; takes-them = cell-takes })
-
-  pub gate-run : (gate : Gate) → gate ≡ gateAt file shape i →
-      tokensOf (gateClauses nodeVariable (gate .kind) (pinsFrom file shape (gate .first) (gate .count))
-      (shape .inputs + i))
-      ≡ cellRun (shape .inputs + i, cellAt file shape i)
-  unfolding cellAt cellOf pinsFrom
-  gate-run gate e =
-      ap (λ (g : Gate).
-      tokensOf (gateClauses nodeVariable (g .kind) (pinsFrom file shape (g .first) (g .count)) (shape .inputs + i))) e
+-- what is put for a gate that was read is what the definition says of its cell
+pub gate-run : (file : List ℕ) (shape : Shape) (i : ℕ) (gate : Gate) → gate ≡ gateAt file shape i →
+    tokensOf (gateClauses nodeVariable (gate .kind) (pinsFrom file shape (gate .first) (gate .count))
+    (shape .inputs + i))
+    ≡ cellRun (shape .inputs + i, cellAt file shape i)
+unfolding cellAt cellOf pinsFrom
+gate-run file shape i gate e =
+    ap (λ (g : Gate).
+    tokensOf (gateClauses nodeVariable (g .kind) (pinsFrom file shape (g .first) (g .count)) (shape .inputs + i))) e

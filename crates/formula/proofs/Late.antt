@@ -2,11 +2,11 @@
 use mathlib.Core.Path.{_≡_, refl, sym, ap, ap₂, _∙_}
 use mathlib.Core.Bool.{Bool, true, false, _||_, cond}
 use mathlib.Core.List.{List, [], _∷_, _++_, map}
-use Prim.Native.Nat.{ℕ, zero, suc, _+_, _*_, _/_, _≤_, _<_}
+use Prim.Native.Nat.{ℕ, zero, suc, _*_, _/_, _≤_, _<_}
 use native.Mathlib.Omega.{arith}
 use lib.Dec.{leb, ltb, eqb}
 use lib.ListN.{length, getD, take}
-use borrow.Author.Tests.{lt-ltb, le-ltb, le-leb, lt-leb, eq-eqb, ne-eqb}
+use borrow.Author.Tests.{lt-ltb, le-ltb, le-leb, lt-leb, ne-eqb}
 use Rattle.basics.specs.Lists.{any, concatMap}
 use Rattle.netlist.specs.declared.Shape.{Shape}
 use Rattle.clauses.specs.Codes.{literalCode}
@@ -15,18 +15,8 @@ use Rattle.pairs.specs.Table.{pairsIn}
 use Rattle.pairs.specs.Promise.{Lists, Findable}
 use Rattle.pairs.proofs.Flat.{pairs-flat}
 use Rattle.pairs.proofs.Closed.{place-below}
-use Rattle.formula.specs.Formula.{
-  Part,
-  sure,
-  never,
-  literal,
-  isSure,
-  literals,
-  clauseOf,
-  late,
-  nodeVariable,
-}
-use Rattle.formula.specs.Emission.{Token, coded, ended, wants, tokensOf}
+use Rattle.formula.specs.Formula.{Part, sure, never, literal, isSure, literals, clauseOf, late}
+use Rattle.formula.specs.Emission.{Token, ended, wants, tokensOf}
 use Rattle.formula.specs.Late.{partCode, partRun, codeRun, controlRun, sureAt, topIn, variableIn, lateIn}
 
 pub equals-zero : (t : ℕ) → eqb t 0 ≡ leb t 0

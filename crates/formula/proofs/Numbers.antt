@@ -2,18 +2,17 @@
 use mathlib.Core.Path.{_≡_, refl, sym, ap, ap₂, _∙_}
 use mathlib.Core.Bool.{Bool, true, false, cond}
 use mathlib.Core.List.{List, [], _∷_, _++_, map, map-append, append-assoc, append-nil}
-use Prim.Native.Nat.{ℕ, zero, suc, _+_, _*_, _/_, _%_, _≤_, _<_}
+use Prim.Native.Nat.{ℕ, suc, _+_, _*_, _/_, _%_, _≤_, _<_}
 use native.Mathlib.Omega.{arith}
 use native.Mathlib.Numerals.{add-one}
-use lib.Dec.{eqb}
 use lib.IntN.{ℤ, pos, negℤ}
-use lib.ListN.{length, take, set, length-append, length-map, length-set}
+use lib.ListN.{length, take, set, length-map, length-set}
 use lib.Seq.{take-suc-set}
 use borrow.Author.Tests.{eq-eqb, ne-eqb}
 use Rattle.clauses.specs.Clauses.{Literal, numberOf, flat}
 use Rattle.clauses.specs.Codes.{decoded, literalCode, written}
 use Rattle.formula.specs.declared.Emitted.{Emitted}
-use Rattle.formula.specs.Emission.{Token, coded, ended, tokenCode, ends, wants, tokensOf, start, Emits}
+use Rattle.formula.specs.Emission.{Token, ended, tokenCode, ends, wants, tokensOf, start, Emits}
 
 -- ---- a clause list's tokens and its numbers
 

@@ -1,8 +1,7 @@
 -- One pair of the table after the other: what the code reads of it, and that what it puts is what the definition says.
 -- Assumes nothing.
-use mathlib.Core.Path.{_≡_, refl, sym, ap, ap₂, _∙_, subst}
-use mathlib.Core.Bool.{Bool, true, false}
-use mathlib.Core.List.{List, [], _∷_, _++_, map}
+use mathlib.Core.Path.{_≡_, sym, ap, ap₂, _∙_, subst}
+use mathlib.Core.List.{List, [], _∷_}
 use Prim.Native.Nat.{ℕ, suc, _+_, _-_, _*_, _/_, _≤_, _<_}
 use native.Mathlib.Omega.{arith}
 use native.Mathlib.Numerals.{add-one}
@@ -10,12 +9,10 @@ use lib.ListN.{length, getD, drop, drop-of-length-le}
 use lib.Seq.{drop-cons}
 use Rattle.netlist.specs.declared.Gate.{Gate}
 use Rattle.netlist.specs.declared.Shape.{Shape}
-use Rattle.netlist.specs.Netlist.{Pin}
-use Rattle.netlist.specs.File.{firstAt, countAt, gateAt, cellOf, cellAt}
+use Rattle.netlist.specs.File.{gateAt, cellOf, cellAt, pinsFrom}
 use Rattle.pairs.specs.Pairs.{placeOf}
-use Rattle.pairs.specs.Table.{pairsIn, pairAt}
+use Rattle.pairs.specs.Table.{pairsIn}
 use Rattle.pairs.proofs.Flat.{pairs-at, pairs-length}
-use Rattle.formula.specs.Emission.{Token, pinsFrom}
 use Rattle.formula.specs.Late.{variableIn, clausesIn, pairRun, Drivers, Stands, AllStand}
 
 module _ (table : List ℕ) where

@@ -1,7 +1,7 @@
 -- The rows of the promise one at a time, and what the code leaves at each end. Assumes nothing.
-use mathlib.Core.Path.{_≡_, refl, sym, ap, ap₂, _∙_, subst}
-use mathlib.Core.List.{List, [], _∷_, _++_}
-use Prim.Native.Nat.{ℕ, _+_, _-_, _*_, _/_, _≤_, _<_, min}
+use mathlib.Core.Path.{_≡_, refl, ap, ap₂, _∙_, subst}
+use mathlib.Core.List.{List, _++_}
+use Prim.Native.Nat.{ℕ, _+_, _-_, _*_, _≤_, _<_}
 use native.Mathlib.Omega.{arith}
 use lib.IntN.{ℤ, pos}
 use lib.ListN.{length, take, replicate, length-append, length-replicate}
@@ -24,7 +24,7 @@ use Rattle.pairs.specs.declared.Listed.{Listed}
 use Rattle.pairs.specs.declared.Listed.the-variants.{Count, TooMany}
 use Rattle.pairs.specs.Pairs.{flatPairs, pairsFor}
 use Rattle.pairs.specs.Table.{pairsIn}
-use Rattle.pairs.specs.Promise.{Tops, pairsAt, Held}
+use Rattle.pairs.specs.Promise.{pairsAt, Held}
 use Rattle.pairs.proofs.Flat.{flat-length}
 use Rattle.pairs.proofs.Whole.{held-count, held-too-many}
 use Rattle.formula.specs.declared.Emitted.{Emitted}

@@ -1,29 +1,29 @@
 -- The table of an accepted file's target is what the code leans on: each pair stands at its own place, and the pairs
 -- that its drivers and the outputs ask for are in it. Assumes nothing.
-use mathlib.Core.Path.{_≡_, refl, sym, ap, _∙_, subst}
-use mathlib.Core.List.{List, [], _∷_, List·Memᴰ}
-use Prim.Native.Nat.{ℕ, suc, _+_, _-_, _*_, _/_, _≤_, _<_}
+use mathlib.Core.Path.{_≡_, refl, ap, _∙_, subst}
+use mathlib.Core.List.{List, List·Memᴰ}
+use Prim.Native.Nat.{ℕ, _+_, _-_, _*_, _/_, _≤_, _<_}
 use native.Mathlib.Omega.{arith}
 use native.Mathlib.Decide.{decLt}
-use lib.ListN.{length, getD, take, length-replicate}
+use lib.ListN.{length, getD, length-replicate}
 use lib.Seq.{take-all}
 use Rattle.netlist.specs.declared.Shape.{Shape}
-use Rattle.netlist.specs.Netlist.{Netlist, Cell, nodes}
+use Rattle.netlist.specs.Netlist.{nodes}
 use Rattle.netlist.specs.File.{firstAt, countAt, driverAt, delayAt, outputAt, gateAt, pinAt, cellAt, netlistAt}
 use Rattle.netlist.specs.Holds.{Holds}
 use Rattle.netlist.proofs.Entries.{node-count, node-has, pin-has, output-has}
+use Rattle.netlist.proofs.GateRead.{gate-takes}
 use Rattle.netlist.proofs.Valid.{takes-few}
-use Rattle.settle.specs.Settling.{topsOf, topOf, atZero}
+use Rattle.settle.specs.Settling.{topsOf, atZero}
 use Rattle.settle.proofs.Nodes.{tops-length}
-use Rattle.pairs.specs.Pairs.{flatPairs, pairsFor, placeOf}
-use Rattle.pairs.specs.Table.{pairsIn, pairAt, keyOf, Sorted}
-use Rattle.pairs.specs.Promise.{pairsAt, Lists, Findable}
+use Rattle.pairs.specs.Pairs.{flatPairs, placeOf}
+use Rattle.pairs.specs.Table.{pairAt, keyOf, Sorted}
+use Rattle.pairs.specs.Promise.{pairsAt, Lists}
 use Rattle.pairs.proofs.Flat.{flat-length, pairs-flat, mem-at}
-use Rattle.pairs.proofs.Closed.{closed-for, listed-for, pair-for, time-for, place-below, place-at}
+use Rattle.pairs.proofs.Closed.{pair-for, place-below, place-at, output-for, driver-for}
 use Rattle.pairs.proofs.Search.{rising-sorted}
 use Rattle.pairs.proofs.Whole.{lists-for}
-use Rattle.formula.specs.Late.{Asking, Drivers, Stands, AllStand, OutputsAsk, Slices}
-use Rattle.formula.proofs.Gates.{gate-read}
+use Rattle.formula.specs.Late.{Asking, Drivers, AllStand, OutputsAsk, Slices}
 
 -- the tops of an accepted file
 abbrev pub topsAt : List ℕ → Shape → List ℕ
@@ -100,13 +100,8 @@ module _ (file : List ℕ) (shape : Shape) (target : ℕ) (ok : Holds file shape
     count-few : countAt file shape (f - shape .inputs) < 256
     unfolding gateAt
     count-few =
-        let r =
-        gate-read file shape ok (f - shape .inputs) gate-here (gateAt file shape (f - shape .inputs)) refl
-        in
-        let l =
-        takes-few (gateAt file shape (f - shape .inputs) .kind) (gateAt file shape (f - shape .inputs) .count)
-        (r .takes-them)
-        in
+        let gate = gateAt file shape (f - shape .inputs) in
+        let few = takes-few (gate .kind) (gate .count) (gate-takes gate ok gate-here refl) in
         omega arith
 
     drivers : Drivers file shape (topsAt file shape) (tableAt file shape target)
@@ -123,10 +118,8 @@ module _ (file : List ℕ) (shape : Shape) (target : ℕ) (ok : Holds file shape
               let b = ok .drivers-below g pin gate-here l h in
               asking (driverAt file shape pin) (t - delayAt file shape pin) (omega (arith, gate-here))
               (λ x y z.
-              listed-for net (ok .valid) (atZero net) target (driverAt file shape pin) (t - delayAt file shape pin)
-              (closed-for net (ok .valid) (atZero net) target .drivers-in f (cellAt file shape g) cell-here t
-              (time-for net (ok .valid) (atZero net) target f t m) (pinAt file shape pin) (pin-has file shape g pin l h)
-              x y z));
+              driver-for net (ok .valid) (atZero net) target f (cellAt file shape g) cell-here t m
+              (pinAt file shape pin) (pin-has file shape g pin l h) x y z);
         }
 
   pub all-stand : AllStand file shape (topsAt file shape) (tableAt file shape target)
@@ -155,9 +148,8 @@ module _ (file : List ℕ) (shape : Shape) (target : ℕ) (ok : Holds file shape
             λ position h.
             asking (outputAt file shape position) target (ok .outputs-nodes position h)
             (λ x y z.
-            listed-for net (ok .valid) (atZero net) target (outputAt file shape position) target
-            (closed-for net (ok .valid) (atZero net) target .outputs-in (outputAt file shape position)
-            (output-has file shape position h) x y z));
+            output-for net (ok .valid) (atZero net) target (outputAt file shape position)
+            (output-has file shape position h) x y z);
       }
 
   pub slices : length (pairsAt file shape target) ≤ 65536 →

@@ -5,7 +5,7 @@ use mathlib.Core.List.{List}
 use Prim.Native.Nat.{ℕ}
 use lib.IntN.{ℤ}
 use Rattle.formula.specs.declared.Built.{Built}
-use Rattle.formula.specs.Promise.{Building, building}
+use Rattle.formula.specs.Promise.{building}
 use Rattle.formula.proofs.Rows.{Meets}
 
 pub build-unique : (file : List ℕ) (target pairsRoom formulaRoom : ℕ) (answer answer′ : Built) (pairs pairs′ : List ℕ)

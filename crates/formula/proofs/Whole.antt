@@ -1,7 +1,7 @@
 -- The list that the code puts is the definition's formula: the pairs come in the order of the table, each with its
 -- gate's kind and pins. Assumes nothing.
-use mathlib.Core.Path.{_≡_, refl, sym, ap, ap₂, _∙_, subst}
-use mathlib.Core.Bool.{Bool, not}
+use mathlib.Core.Path.{_≡_, refl, sym, ap, ap₂, _∙_}
+use mathlib.Core.Bool.{not}
 use mathlib.Core.List.{
   List,
   [],
@@ -17,10 +17,11 @@ use mathlib.Core.List.{
 use Prim.Native.Nat.{ℕ, suc, _+_, _-_}
 use native.Mathlib.Omega.{arith}
 use Rattle.basics.specs.Lists.{concatMap}
+use Rattle.basics.proofs.Lists.{concatMap-append}
 use Rattle.netlist.specs.declared.Kind.{Kind}
 use Rattle.netlist.specs.declared.Kind.the-variants.{Simple, Parity, Mux}
 use Rattle.netlist.specs.declared.Shape.{Shape}
-use Rattle.netlist.specs.Netlist.{Netlist, Cell, Pin, nodes, nodeCount}
+use Rattle.netlist.specs.Netlist.{Cell, Pin, nodes}
 use Rattle.netlist.specs.File.{cellAt, netlistAt}
 use Rattle.netlist.proofs.Entries.{node-count, node-only}
 use Rattle.clauses.specs.Clauses.{Literal}
@@ -30,7 +31,6 @@ use Rattle.pairs.specs.Table.{pairsIn}
 use Rattle.pairs.specs.Promise.{pairsAt}
 use Rattle.pairs.proofs.Flat.{pairs-flat}
 use Rattle.formula.specs.Formula.{
-  Part,
   literal,
   clauseOf,
   gateClauses,
@@ -44,16 +44,7 @@ use Rattle.formula.specs.Formula.{
   formulaFor,
 }
 use Rattle.formula.specs.Emission.{Token, tokensOf, cellRun}
-use Rattle.formula.specs.Late.{
-  topIn,
-  variableIn,
-  clausesIn,
-  pairRun,
-  outputsLate,
-  pinControl,
-  driversLate,
-}
-use Rattle.formula.proofs.Emission.{concatMap-append}
+use Rattle.formula.specs.Late.{topIn, variableIn, clausesIn, pairRun, outputsLate}
 use Rattle.formula.proofs.Gates.{tokens-append, tokens-concatMap}
 use Rattle.formula.proofs.Table.{topsAt, tableAt}
 

@@ -1,14 +1,14 @@
 -- Document 01's cases on the formula, on circuit A's bytes, as one statement over one table: a row is the target and
 -- the lengths of the two lent slices, and the answer and the whole content of both slices that `build` is to leave.
+-- Interface: Case, cases, hold.
 use mathlib.Core.Path.{_≡_, refl}
-use mathlib.Core.Bool.{Bool, true, false}
 use mathlib.Core.List.{List, [], _∷_, _++_, map}
 use Prim.Native.Nat.{ℕ}
 use lib.IntN.{ℤ, pos, negsuc}
 use lib.ListN.{replicate}
 use Rattle.refusal.specs.declared.Refusal.the-variants.{Pairs, Room}
 use Rattle.netlist.specs.Kinds.{fewest, most, kindOf}
-use Rattle.netlist.specs.File.{tableBytes, shapeOf, gateAt, pinAt, cellOf, cellAt, netlistAt}
+use Rattle.netlist.specs.File.{tableBytes, shapeOf, gateAt, pinAt, cellOf, cellAt, netlistAt, pinsFrom}
 use Rattle.netlist.specs.Open.{
   openOf,
   firstWrong,
@@ -29,7 +29,6 @@ use Rattle.settle.specs.Settling.{grow, topsOf}
 use Rattle.clauses.specs.Clauses.{flat}
 use Rattle.pairs.specs.Pairs.{asked, timesAt, pairList, flatPairs, pairsFor, placeOf}
 use Rattle.formula.specs.declared.Built.the-variants.{Formula, Refused}
-use Rattle.formula.specs.declared.Counts.{Counts}
 use Rattle.formula.specs.Formula.{clauseOf, gateClauses, late, pairClauses, formula, pairVariable, formulaFor}
 use Rattle.formula.specs.Promise.{Building, numbersFor, countsFor, built, buildingOf, building}
 use Rattle.formula.specs.Example.{printed}
@@ -115,7 +114,7 @@ pub hold : map (λ (c : Case). building circuitA (c .target) (c .pairsRoom) (c .
     ≡ map (λ (c : Case). c .leaves) cases
 unfolding
     circuitA openOf firstWrong countWrong backWrong pinsBefore gateWrong gatePlace sumWrong pinsAt pinWrong pinPlace
-    outputWrong outputPlace fewest most kindOf tableBytes shapeOf gateAt pinAt cellOf cellAt netlistAt grow topsOf flat
-    asked timesAt pairList flatPairs pairsFor placeOf clauseOf gateClauses late pairClauses formula pairVariable
-    formulaFor numbersFor countsFor built buildingOf building printed gateLines cases
+    outputWrong outputPlace fewest most kindOf tableBytes shapeOf gateAt pinAt pinsFrom cellOf cellAt netlistAt grow
+    topsOf flat asked timesAt pairList flatPairs pairsFor placeOf clauseOf gateClauses late pairClauses formula
+    pairVariable formulaFor numbersFor countsFor built buildingOf building printed gateLines cases
 hold = refl

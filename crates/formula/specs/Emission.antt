@@ -5,10 +5,7 @@ use mathlib.Core.List.{List, [], _∷_, _++_, map}
 use Prim.Native.Nat.{ℕ, suc, _+_, _≤_}
 use lib.IntN.{ℤ}
 use lib.ListN.{length}
-use Rattle.basics.specs.Lists.{upFrom}
-use Rattle.netlist.specs.declared.Shape.{Shape}
 use Rattle.netlist.specs.Netlist.{Pin, Cell}
-use Rattle.netlist.specs.File.{pinAt}
 use Rattle.clauses.specs.Clauses.{Literal}
 use Rattle.clauses.specs.Codes.{literalCode, written}
 use Rattle.formula.specs.declared.Emitted.{Emitted}
@@ -56,10 +53,6 @@ start = record { numbers = 0; clauses = 0 }
 pub record Fits (most : ℕ) (at : Emitted) : Type 0 where
   pub place : at .numbers + most ≤ 4000000000
   pub fewer : at .clauses ≤ at .numbers
-
--- the pins from a number on
-unfoldable pub pinsFrom : List ℕ → Shape → ℕ → ℕ → List Pin
-pinsFrom file shape first count = map (pinAt file shape) (upFrom first count)
 
 -- ---- what each loop puts for one entry
 

@@ -1,13 +1,11 @@
 -- The definitions run on circuit A: its pairs and numbers at T=3, as document 01 prints them, and its counts at T=6.
+-- Interface: printed, runs.
 use mathlib.Core.Path.{_≡_, refl}
-use mathlib.Core.Bool.{Bool, true, false}
 use mathlib.Core.List.{List, [], _∷_}
-use Prim.Native.Nat.{ℕ}
 use lib.IntN.{ℤ, pos, negsuc}
 use Rattle.netlist.specs.Example.{describedA}
 use Rattle.settle.specs.Settling.{grow, topsOf, atZero}
 use Rattle.clauses.specs.Clauses.{flat}
-use Rattle.formula.specs.declared.Counts.{Counts}
 use Rattle.pairs.specs.Pairs.{asked, timesAt, pairList, placeOf, pairsFor}
 use Rattle.formula.specs.Formula.{clauseOf, gateClauses, late, pairClauses, formula, pairVariable, formulaFor}
 use Rattle.formula.specs.Promise.{numbersFor, countsFor}
@@ -21,6 +19,7 @@ printed =
     ∷ negsuc 6 ∷ pos 6 ∷ pos 0 ∷ negsuc 6 ∷ pos 6 ∷ pos 3 ∷ pos 0 ∷ negsuc 6 ∷ pos 2 ∷ pos 0
     ∷ negsuc 7 ∷ pos 7 ∷ pos 0 ∷ negsuc 7 ∷ pos 7 ∷ negsuc 3 ∷ pos 0 ∷ negsuc 7 ∷ negsuc 1 ∷ pos 0 ∷ pos 8 ∷ pos 0 ∷ []
 
+-- the pairs and the numbers at T=3, the counts at T=6
 pub runs :
     (pairsFor describedA (atZero describedA) 3 ≡ (2, 1) ∷ (3, 2) ∷ (4, 3) ∷ [])
     × (numbersFor describedA 3 ≡ printed)

@@ -2,7 +2,7 @@
 -- `pair` a pair's. Then their numbers. Interface: all of it.
 use mathlib.Core.Bool.{Bool, true, false, not, cond}
 use mathlib.Core.List.{List, [], _∷_, _++_, map}
-use Prim.Native.Nat.{ℕ, zero, suc, _+_, _-_}
+use Prim.Native.Nat.{ℕ, suc, _+_, _-_}
 use lib.Dec.{leb, ltb}
 use Rattle.basics.specs.Lists.{any, concatMap}
 use Rattle.netlist.specs.declared.Kind.{Kind}
@@ -17,11 +17,13 @@ pub data Part (X : Type 0) : Type 0 where
   sure never : Part X
   literal : Bool → X → Part X
 
+-- it is true outright
 abbrev pub isSure : {X : Type 0} → Part X → Bool
 isSure sure = true
 isSure never = false
 isSure (literal b x) = false
 
+-- the literals among parts, in order
 abbrev pub literals : {X : Type 0} → List (Part X) → List (Bool × X)
 literals [] = []
 literals (sure ∷ ps) = literals ps

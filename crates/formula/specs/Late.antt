@@ -1,9 +1,9 @@
 -- What serves the code that writes the pairs' clauses: "late at t" by the tops and the table in lent slices, as one
 -- code, and what the code leans on in them.
 use mathlib.Core.Path.{_≡_}
-use mathlib.Core.Bool.{Bool, true, false, not, cond}
+use mathlib.Core.Bool.{Bool, false, not, cond}
 use mathlib.Core.List.{List, [], _∷_, _++_, map}
-use Prim.Native.Nat.{ℕ, suc, _+_, _-_, _*_, _/_, _≤_, _<_}
+use Prim.Native.Nat.{ℕ, suc, _+_, _-_, _/_, _≤_, _<_}
 use lib.Dec.{leb, ltb, eqb}
 use lib.ListN.{length, getD}
 use Rattle.basics.specs.Lists.{concatMap}
@@ -16,17 +16,7 @@ use Rattle.clauses.specs.Codes.{literalCode}
 use Rattle.pairs.specs.Pairs.{placeOf}
 use Rattle.pairs.specs.Table.{pairsIn, pairAt}
 use Rattle.pairs.specs.Promise.{Findable}
-use Rattle.formula.specs.Formula.{
-  Part,
-  sure,
-  never,
-  literal,
-  isSure,
-  literals,
-  clauseOf,
-  late,
-  nodeVariable,
-}
+use Rattle.formula.specs.Formula.{Part, sure, never, literal, clauseOf, late, nodeVariable}
 use Rattle.formula.specs.Emission.{Token, coded, ended, wants, tokensOf}
 
 -- ---- a part as one code
@@ -60,6 +50,7 @@ controlRun negated part driver =
 abbrev pub sureAt : ℕ → (ℕ → ℕ) → ℕ → ℕ → Bool
 sureAt I top n t = cond (ltb n I) (leb t (top n)) (leb t 0)
 
+-- a node's top
 abbrev pub topIn : List ℕ → ℕ → ℕ
 topIn tops n = getD tops n 0
 
@@ -67,6 +58,7 @@ topIn tops n = getD tops n 0
 unfoldable pub variableIn : Shape → List ℕ → ℕ → ℕ → ℕ
 variableIn shape table f t = suc (shape .inputs + shape .gates + placeOf f t (pairsIn table))
 
+-- "node late at t"
 abbrev pub lateIn : Shape → List ℕ → List ℕ → ℕ → ℕ → Part ℕ
 lateIn shape tops table = late (shape .inputs) (topIn tops) nodeVariable (variableIn shape table)
 

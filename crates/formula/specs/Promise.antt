@@ -1,7 +1,7 @@
 -- What `build` answers and leaves in the two lent slices, for every input: 1..7, 10, then 9 for the formula.
 -- Interface: building.
-use mathlib.Core.Bool.{Bool, true, false}
-use mathlib.Core.List.{List, [], _∷_, _++_}
+use mathlib.Core.Bool.{cond}
+use mathlib.Core.List.{List, _++_}
 use Prim.Native.Nat.{ℕ, _+_, _-_, _*_, _/_, min}
 use lib.Dec.{ltb}
 use lib.IntN.{ℤ, pos}
@@ -32,11 +32,6 @@ abbrev pub refused : ℕ → ℕ → Refusal → Building
 refused pairsRoom formulaRoom refusal =
     record { answer = Refused refusal; pairs = replicate pairsRoom 0; formula = replicate formulaRoom (pos 0) }
 
--- a row of the table: refused when, or on to the next row
-abbrev pub row : Bool → Building → Building → Building
-row true refusal next = refusal
-row false refusal next = next
-
 -- the formula's numbers
 unfoldable pub numbersFor : Netlist → ℕ → List ℤ
 numbersFor net target = flat (formulaFor net (atZero net) target)
@@ -66,11 +61,12 @@ built net target pairsRoom formulaRoom =
       formula = numbersFor net target ++ replicate (formulaRoom - length (numbersFor net target)) (pos 0);
     }
 
--- of an accepted netlist: 10 PAIRS "more pairs than the table holds, or than 65,536", 9 ROOM for the formula
+-- of an accepted netlist: 10 PAIRS "more pairs than the table holds, or than 65,536", then 9 ROOM for the formula; each
+-- row refuses when its test passes
 unfoldable pub buildingOf : Netlist → ℕ → ℕ → ℕ → Building
 buildingOf net target pairsRoom formulaRoom =
-    row (ltb (tableHolds pairsRoom) (length (pairsFor net (atZero net) target))) (refused pairsRoom formulaRoom Pairs)
-    (row (ltb formulaRoom (length (numbersFor net target)))
+    cond (ltb (tableHolds pairsRoom) (length (pairsFor net (atZero net) target))) (refused pairsRoom formulaRoom Pairs)
+    (cond (ltb formulaRoom (length (numbersFor net target)))
     (refused pairsRoom formulaRoom (Room (length (numbersFor net target))))
     (built net target pairsRoom formulaRoom))
 

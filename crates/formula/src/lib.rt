@@ -11,7 +11,7 @@ ghost use Prim.Native.Nat.{suc, _+_, _-_, _≤_, _<_, ℕ};
 ghost use lib.Dec.{T};
 ghost use lib.ListN.{length};
 ghost use Rattle.basics.specs.Lists.{concatMap, any};
-ghost use Rattle.netlist.specs.File.{driverAt, netlistAt};
+ghost use Rattle.netlist.specs.File.{driverAt, netlistAt, pinsFrom};
 ghost use Rattle.netlist.specs.Holds.{Holds, Tables};
 ghost use Rattle.netlist.specs.Netlist.{takes, nodes};
 ghost use Rattle.netlist.specs.declared.Kind.the-variants.{Simple};
@@ -47,7 +47,6 @@ ghost use Rattle.formula.specs.Emission.{
   Emits,
   Fits,
   tokensOf,
-  pinsFrom,
   cellRun,
   forcedRun,
   driverRun,

@@ -2,18 +2,7 @@
 -- time, and the netlist that it says is valid. Assumes nothing.
 use mathlib.Core.Path.{_≡_, refl, sym, ap, _∙_, subst}
 use mathlib.Core.Bool.{Bool, true, false, not, _&&_}
-use mathlib.Core.List.{
-  List,
-  [],
-  _∷_,
-  _++_,
-  map,
-  List·Memᴰ,
-  List·Memᴰ·head,
-  List·Memᴰ·tail,
-  Memᴰ·append-left,
-  Memᴰ·append-right,
-}
+use mathlib.Core.List.{List, [], _++_, map}
 use Prim.Native.Nat.{ℕ, zero, suc, _+_, _-_, _≤_, _<_}
 use native.Mathlib.Omega.{arith}
 use lib.Dec.{T, leb, ltb, eqb, le→leb, lt→ltb}
@@ -21,7 +10,7 @@ use lib.ListN.{length, length-append}
 use borrow.Author.Tests.{leb-true, leb-false, lt-ltb, ltb-true, ltb-false, eqb-true}
 use Rattle.basics.specs.Lists.{all, upFrom, concatMap}
 use Rattle.basics.proofs.Truth.{and-both}
-use Rattle.basics.proofs.Lists.{all-of, mem-map, upFrom-mem}
+use Rattle.basics.proofs.Lists.{all-of, mem-map, mem-concatMap, upFrom-mem, concatMap-append}
 use Rattle.netlist.specs.declared.Shape.{Shape}
 use Rattle.netlist.specs.declared.Opened.the-variants.{Accepted}
 use Rattle.netlist.specs.Netlist.{Netlist, Cell, Pin, nodeCount, nodes, takes, pinFits, gateFits, rising, valid}
@@ -72,25 +61,6 @@ and-right-back false b e = let z : _≡_ {A = ℕ} 0 1 = cc in absurd (omega ari
 and-false-back : (a b : Bool) → a ≡ true → (a && b) ≡ false → b ≡ false
 and-false-back true b t e = e
 and-false-back false b t e = let z : _≡_ {A = ℕ} 0 1 = cc in absurd (omega arith)
-
--- a member of one of the lists is a member of all of them together
-concatMap-has : {A B : Type 0} (f : A → List B) (l : List A) (x : A) (y : B) → List·Memᴰ x l → List·Memᴰ y (f x) →
-    List·Memᴰ y (concatMap f l)
-concatMap-has f (z ∷ l) x y (List·Memᴰ·head e) i =
-    Memᴰ·append-left (concatMap f l) (subst (λ w. List·Memᴰ y (f w)) e i)
-concatMap-has f (z ∷ l) x y (List·Memᴰ·tail m) i =
-    Memᴰ·append-right (f z) (concatMap-has f l x y m i)
-
-concatMap-append : {A B : Type 0} (f : A → List B) (l m : List A) →
-    length (concatMap f (l ++ m)) ≡ length (concatMap f l) + length (concatMap f m)
-concatMap-append f [] m = omega arith
-concatMap-append f (x ∷ l) m =
-    omega (
-      arith,
-      concatMap-append f l m,
-      length-append (f x) (concatMap f (l ++ m)),
-      length-append (f x) (concatMap f l),
-    )
 
 module _ {file : List ℕ} {shape : Shape} (p : Passed file shape) where
   -- ---- the gates
@@ -162,7 +132,8 @@ module _ {file : List ℕ} {shape : Shape} (p : Passed file shape) where
       ap (λ (k : ℕ). length (concatMap (pinsAt file shape) (upFrom 0 k))) e
       ∙ ap (λ (l : List ℕ). length (concatMap (pinsAt file shape) l))
       (upFrom-append 0 n 1 ∙ ap (λ (k : ℕ). upFrom 0 n ++ upFrom k 1) f)
-      ∙ concatMap-append (pinsAt file shape) (upFrom 0 n) (upFrom n 1)
+      ∙ ap length (concatMap-append (pinsAt file shape) (upFrom 0 n) (upFrom n 1))
+      ∙ length-append (concatMap (pinsAt file shape) (upFrom 0 n)) (concatMap (pinsAt file shape) (upFrom n 1))
       ∙ omega (
         arith,
         all-pins n,
@@ -180,7 +151,7 @@ module _ {file : List ℕ} {shape : Shape} (p : Passed file shape) where
       none-wrong (pinWrong file shape) (concatMap (pinsAt file shape) (upFrom 0 (shape .gates)))
       (omega (arith, p .pins .pins, p .pins .gates .sum, all-pins (shape .gates)))
       (shape .inputs + gate, pin)
-      (concatMap-has (pinsAt file shape) (upFrom 0 (shape .gates)) gate (shape .inputs + gate, pin)
+      (mem-concatMap (pinsAt file shape) (upFrom 0 (shape .gates)) gate (shape .inputs + gate, pin)
       (upFrom-mem 0 (shape .gates) gate (omega arith) (omega arith))
       (mem-map (λ pin. (shape .inputs + gate, pin)) (upFrom (pinsBefore file shape gate) (countAt file shape gate)) pin
       (upFrom-mem (pinsBefore file shape gate) (countAt file shape gate) pin (omega arith) (omega arith))))

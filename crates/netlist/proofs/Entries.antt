@@ -21,6 +21,7 @@ use Rattle.netlist.specs.File.{
   outputAt,
   gateAt,
   pinAt,
+  pinsFrom,
   cellOf,
   cellAt,
   netlistAt,
@@ -66,7 +67,7 @@ module _ (file : List ℕ) (shape : Shape) where
 
   pub cell-pins : (i : ℕ) →
       cellAt file shape i .pins ≡ map (pinAt file shape) (upFrom (firstAt file shape i) (countAt file shape i))
-  unfolding cellAt cellOf gateAt
+  unfolding cellAt cellOf gateAt pinsFrom
   cell-pins i = refl
 
   pub pins-length : (i : ℕ) → length (cellAt file shape i .pins) ≡ countAt file shape i

@@ -12,7 +12,7 @@ use Rattle.basics.proofs.Truth.{and-both}
 use Rattle.basics.proofs.Lists.{all-at, upFrom-mem}
 use Rattle.basics.proofs.Table.{rule-at}
 use Rattle.netlist.specs.Netlist.{takes}
-use Rattle.netlist.specs.declared.Kind.the-variants.{Simple, Parity, Mux}
+use Rattle.netlist.specs.declared.Kind.the-variants.{Mux}
 use Rattle.netlist.specs.Kinds.{fewest, most, kindOf, controlling, forced, bit, recordOf, entryOf, digitOf}
 
 -- the code's table: a column a number, with a digit for each kind

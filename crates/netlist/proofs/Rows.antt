@@ -1,6 +1,6 @@
 -- The table's rows: what passing each of them says. Assumes nothing.
 use mathlib.Core.Path.{_≡_, refl, sym, ap, ap₂, _∙_}
-use mathlib.Core.Bool.{Bool, true, false, not, _&&_, _||_, cond}
+use mathlib.Core.Bool.{Bool, true, false, not, _&&_, _||_, cond, or-true, or-false}
 use mathlib.Core.List.{List}
 use Prim.Native.Nat.{ℕ, _+_, _-_, _≤_, _<_}
 use native.Mathlib.Omega.{arith}
@@ -23,14 +23,6 @@ use Rattle.netlist.specs.File.{
 }
 use Rattle.netlist.specs.Open.{countWrong, backWrong, pinsBefore, gateWrong, pinWrong, outputWrong}
 use Rattle.netlist.specs.Holds.{InRange, Tables}
-
-or-true : (a : Bool) → (a || true) ≡ true
-or-true true = refl
-or-true false = refl
-
-or-false : (a : Bool) → (a || false) ≡ a
-or-false true = refl
-or-false false = refl
 
 -- a test of a range, and what it says
 pub between-true : (low n high : ℕ) → (leb low n && leb n high) ≡ true → (low ≤ n) × (n ≤ high)

@@ -1,5 +1,5 @@
--- What a valid netlist is, one fact at a time, and back from the facts. Assumes nothing.
-use mathlib.Core.Path.{_≡_}
+-- A netlist whose parts pass is valid, and what is used of a valid one, fact by fact. Assumes nothing.
+use mathlib.Core.Path.{_≡_, subst}
 use mathlib.Core.Bool.{Bool, _&&_}
 use mathlib.Core.List.{List·Memᴰ}
 use Prim.Native.Nat.{ℕ, _≤_, _<_}
@@ -57,12 +57,6 @@ module _ (net : Netlist) (v : T (valid net)) where
   valid-ends = and-right (counts net && all gateFits (nodes net)) (ends net) v
 
   -- "I is 1..64"
-  pub valid-inputs-some : 1 ≤ net .inputs
-  valid-inputs-some =
-      leb→le 1 (net .inputs)
-      (and-left (leb 1 (net .inputs)) (leb (net .inputs) 64)
-      (and-left (leb 1 (net .inputs) && leb (net .inputs) 64) (leb (length (net .gates)) 448) valid-counts))
-
   pub valid-inputs-few : net .inputs ≤ 64
   valid-inputs-few =
       leb→le (net .inputs) 64
@@ -94,31 +88,12 @@ module _ (net : Netlist) (v : T (valid net)) where
       and-left (rising 0 (net .outputs) && all (λ o. ltb o (nodeCount net)) (net .outputs))
       (leb 1 (length (net .outputs))) valid-ends-first
 
-  -- "node numbers, strictly rising"
-  pub valid-rising : T (rising 0 (net .outputs))
-  valid-rising =
-      and-left (rising 0 (net .outputs)) (all (λ o. ltb o (nodeCount net)) (net .outputs)) valid-ends-nodes
-
   -- each output is a node
   pub valid-outputs : (o : ℕ) → List·Memᴰ o (net .outputs) → o < nodeCount net
   valid-outputs o m =
       ltb→lt o (nodeCount net)
       (all-at (λ o. ltb o (nodeCount net)) (net .outputs)
       (and-right (rising 0 (net .outputs)) (all (λ o. ltb o (nodeCount net)) (net .outputs)) valid-ends-nodes) o m)
-
-  -- "Q 1..64"
-  pub valid-outputs-some : 1 ≤ length (net .outputs)
-  valid-outputs-some =
-      leb→le 1 (length (net .outputs))
-      (and-right (rising 0 (net .outputs) && all (λ o. ltb o (nodeCount net)) (net .outputs))
-      (leb 1 (length (net .outputs))) valid-ends-first)
-
-  pub valid-outputs-few : length (net .outputs) ≤ 64
-  valid-outputs-few =
-      leb→le (length (net .outputs)) 64
-      (and-right
-      (rising 0 (net .outputs) && all (λ o. ltb o (nodeCount net)) (net .outputs) && leb 1 (length (net .outputs)))
-      (leb (length (net .outputs)) 64) valid-ends)
 
 -- ---- a gate that fits
 
@@ -142,20 +117,15 @@ fits-small x t p m =
     leb→le (p .delay) 999
     (and-right (ltb (p .driver) (x .0)) (leb (p .delay) 999) (all-at (pinFits (x .0)) (x .1 .pins) (fits-pins x t) p m))
 
--- a kind takes 1 to 8 pins
-pub takes-some : (kind : Kind) (n : ℕ) → T (takes kind n) → 1 ≤ n
-takes-some (Simple c k) n t = leb→le 1 n (and-left (leb 1 n) (leb n 8) t)
-takes-some (Parity odd) n t = let e = eqb→eq n 2 t in omega arith
-takes-some Mux n t = let e = eqb→eq n 3 t in omega arith
-
+-- a kind takes at most 8 pins
 pub takes-few : (kind : Kind) (n : ℕ) → T (takes kind n) → n ≤ 8
 takes-few (Simple c k) n t = leb→le n 8 (and-right (leb 1 n) (leb n 8) t)
-takes-few (Parity odd) n t = let e = eqb→eq n 2 t in omega arith
+takes-few (Parity equal) n t = let e = eqb→eq n 2 t in omega arith
 takes-few Mux n t = let e = eqb→eq n 3 t in omega arith
 
 -- a parity gate has 2 pins, a multiplexer 3
-pub takes-parity : (odd : Bool) (n : ℕ) → T (takes (Parity odd) n) → n ≡ 2
-takes-parity odd n t = eqb→eq n 2 t
+pub takes-parity : {kind : Kind} {equal : Bool} (n : ℕ) → kind ≡ Parity equal → T (takes kind n) → n ≡ 2
+takes-parity n e t = eqb→eq n 2 (subst (λ (k : Kind). T (takes k n)) e t)
 
-pub takes-mux : (n : ℕ) → T (takes Mux n) → n ≡ 3
-takes-mux n t = eqb→eq n 3 t
+pub takes-mux : {kind : Kind} (n : ℕ) → kind ≡ Mux → T (takes kind n) → n ≡ 3
+takes-mux n e t = eqb→eq n 3 (subst (λ (k : Kind). T (takes k n)) e t)

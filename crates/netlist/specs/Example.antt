@@ -1,14 +1,14 @@
--- Document 01's circuit A: its 48 bytes, and that they decode to the circuit that the page describes.
+-- Document 01's circuit A: its 48 bytes, and that they decode to the circuit that the page describes. Interface:
+-- circuitA, describedA, decodes.
 use mathlib.Core.Path.{_≡_, refl}
-use mathlib.Core.Bool.{Bool, true, false, not, _&&_, _||_, cond}
-use mathlib.Core.List.{List, [], _∷_, map}
+use mathlib.Core.Bool.{true, false}
+use mathlib.Core.List.{List, [], _∷_}
 use Prim.Native.Nat.{ℕ}
-use Rattle.basics.specs.Lists.{upFrom, concatMap}
 use Rattle.netlist.specs.declared.Kind.the-variants.{Simple}
 use Rattle.netlist.specs.declared.Opened.the-variants.{Accepted}
 use Rattle.netlist.specs.Netlist.{Netlist, Pin}
 use Rattle.netlist.specs.Kinds.{fewest, most, kindOf}
-use Rattle.netlist.specs.File.{tableBytes, shapeOf, gateAt, pinAt, cellOf, cellAt, netlistAt, netlistOf}
+use Rattle.netlist.specs.File.{tableBytes, shapeOf, gateAt, pinAt, pinsFrom, cellOf, cellAt, netlistAt, netlistOf}
 use Rattle.netlist.specs.Open.{
   openOf,
   firstWrong,
@@ -32,6 +32,7 @@ circuitA =
     0 ∷ 0 ∷ 3 ∷ 0 ∷ 2 ∷ 0 ∷ 1 ∷ 0 ∷ 1 ∷ 0 ∷ 1 ∷ 0 ∷ 3 ∷ 0 ∷ 1 ∷ 0 ∷ 1 ∷ 0 ∷ 1 ∷ 0 ∷
     4 ∷ 0 ∷ 34 ∷ 0 ∷ 0 ∷ 0 ∷ 2 ∷ 0 ∷ 3 ∷ 0 ∷ 5 ∷ 0 ∷ 1 ∷ 0 ∷ 1 ∷ 0 ∷ []
 
+-- a pin by its driver and its delay
 abbrev pin : ℕ → ℕ → Pin
 pin driver delay = record { driver = driver; delay = delay }
 
@@ -51,5 +52,6 @@ describedA =
 pub decodes : (openOf circuitA ≡ Accepted (shapeOf circuitA)) × (netlistOf circuitA ≡ describedA)
 unfolding
     circuitA describedA openOf firstWrong countWrong backWrong pinsBefore gateWrong gatePlace sumWrong pinsAt pinWrong
-    pinPlace outputWrong outputPlace fewest most kindOf tableBytes shapeOf gateAt pinAt cellOf cellAt netlistAt
+    pinPlace outputWrong outputPlace fewest most kindOf tableBytes shapeOf gateAt pinAt pinsFrom cellOf cellAt
+    netlistAt
 decodes = (refl, refl)

@@ -1,6 +1,6 @@
 -- "The netlist file": where its numbers lie, and the netlist that they say. Interface: all of it.
-use mathlib.Core.List.{List, [], _∷_, map}
-use Prim.Native.Nat.{ℕ, zero, suc, _+_, _-_, _*_}
+use mathlib.Core.List.{List, map}
+use Prim.Native.Nat.{ℕ, _+_, _-_, _*_}
 use lib.ListN.{length, getD}
 use Rattle.basics.specs.Lists.{upFrom}
 use Rattle.lent.specs.Bytes.{twoBytes, fourBytes}
@@ -78,17 +78,23 @@ unfoldable pub gateAt : List ℕ → Shape → ℕ → Gate
 gateAt file shape gate =
     record { kind = kindOf (kindAt file shape gate); first = firstAt file shape gate; count = countAt file shape gate }
 
+-- a pin by its number
 unfoldable pub pinAt : List ℕ → Shape → ℕ → Pin
 pinAt file shape pin = record { driver = driverAt file shape pin; delay = delayAt file shape pin }
 
+-- the pins from number `first` on, so many
+unfoldable pub pinsFrom : List ℕ → Shape → ℕ → ℕ → List Pin
+pinsFrom file shape first count = map (pinAt file shape) (upFrom first count)
+
 -- a gate's pins lie together, from its first pin on
 unfoldable pub cellOf : List ℕ → Shape → Gate → Cell
-cellOf file shape gate =
-    record { kind = gate .kind; pins = map (pinAt file shape) (upFrom (gate .first) (gate .count)) }
+cellOf file shape gate = record { kind = gate .kind; pins = pinsFrom file shape (gate .first) (gate .count) }
 
+-- a gate by its number
 unfoldable pub cellAt : List ℕ → Shape → ℕ → Cell
 cellAt file shape gate = cellOf file shape (gateAt file shape gate)
 
+-- inputs, gates and outputs together
 unfoldable pub netlistAt : List ℕ → Shape → Netlist
 netlistAt file shape =
     record {

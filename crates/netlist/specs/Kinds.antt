@@ -1,5 +1,5 @@
--- Document 01's table of kinds: pins, c and k. Interface: kindOf, fewest, most. entryOf, digitOf and
--- recordOf serve the code: the table in one, a digit of one of its columns, and the record of a row.
+-- Document 01's table of kinds: pins, c and k. Interface: fewest, most, kindOf, bit. The rest serves the code: a kind's
+-- c and k by themselves, its record by these, and the table in one, with a digit of one of its columns.
 use mathlib.Core.Bool.{Bool, true, false, cond}
 use Prim.Native.Nat.{ℕ, _*_, _/_, _%_, _^_}
 use lib.Dec.{eqb, ltb}
@@ -44,22 +44,24 @@ kindOf kind =
     (cond (eqb kind 7) (Parity false)
     (cond (eqb kind 8) (Parity true) Mux)))))))
 
+-- a Bool as a number
+abbrev pub bit : Bool → ℕ
+bit true = 1
+bit false = 0
+
+-- ---- what serves the code
+
 -- c of a simple kind, 0 for the others
 abbrev pub controlling : Kind → Bool
 controlling (Simple c k) = c
-controlling (Parity odd) = false
+controlling (Parity equal) = false
 controlling Mux = false
 
 -- k of a simple kind, the value for equal pins of a parity gate, 0 for MUX
 abbrev pub forced : Kind → Bool
 forced (Simple c k) = k
-forced (Parity odd) = odd
+forced (Parity equal) = equal
 forced Mux = false
-
--- a Bool as a number
-abbrev pub bit : Bool → ℕ
-bit true = 1
-bit false = 0
 
 -- the record of a kind's number, by its c and k
 abbrev pub recordOf : ℕ → Bool → Bool → Kind

@@ -1,5 +1,6 @@
 -- What a reader must believe of a netlist, in document 01's order. Interface: Netlist (the circuit as data), Kinds (the
--- table of kinds), File (where the bytes lie), Open (the refusals 1 to 7), Holds (what an accepted file gives).
+-- table of kinds), File (where the bytes lie), Open (the refusals 1 to 7), Holds (what an accepted file gives),
+-- Example (circuit A).
 pub mod Netlist
 pub mod Kinds
 pub mod File

@@ -1,7 +1,7 @@
 -- A netlist as data, apart from its bytes: inputs, gates with their pins, outputs. Interface: all of it.
-use mathlib.Core.Bool.{Bool, true, false, _&&_}
+use mathlib.Core.Bool.{Bool, true, _&&_}
 use mathlib.Core.List.{List, [], _∷_}
-use Prim.Native.Nat.{ℕ, zero, suc, _+_}
+use Prim.Native.Nat.{ℕ, suc, _+_}
 use lib.Dec.{leb, ltb, eqb}
 use lib.ListN.{length}
 use Rattle.basics.specs.Lists.{all, numbered}
@@ -35,7 +35,7 @@ nodes net = numbered (net .inputs) (net .gates)
 -- the number of pins that a kind can have: a simple gate 1 to 8, XOR and XNOR 2, MUX 3
 abbrev pub takes : Kind → ℕ → Bool
 takes (Simple c k) n = leb 1 n && leb n 8
-takes (Parity odd) n = eqb n 2
+takes (Parity equal) n = eqb n 2
 takes Mux n = eqb n 3
 
 -- "A pin's node is smaller than its gate's node"; "delay 0..999"

@@ -90,7 +90,7 @@ fn row_of(kind: usize) -> Row
 }
 
 // The record of a kind's number.
-pub fn kind_of(kind: usize) -> Kind
+fn kind_of(kind: usize) -> Kind
     ensures { λ r. ⌜ r ≡ kindOf kind ⌝ }
 {
     let row = row_of(kind);

@@ -1,22 +1,13 @@
 -- Numbers stored in the table: a pair at its two places, and what stands from a place on moved to the front, of which
--- the first i are there and what is from i on is as it was. Laws: pair-stored; moving-starts, moving-length,
--- moving-more, moving-ends. Assumes nothing.
+-- the first i are there and what is from i on is as it was. Laws: pair-stored; moving-starts, moving-more. Assumes
+-- nothing.
 use mathlib.Core.Path.{_≡_, refl, sym, ap, ap₂, _∙_}
-use mathlib.Core.List.{List, [], _∷_, _++_, append-assoc}
-use Prim.Native.Nat.{ℕ, suc, _+_, _*_, _/_, _<_, _≤_}
+use mathlib.Core.List.{List, _∷_}
+use Prim.Native.Nat.{ℕ, suc, _+_, _*_, _/_, _<_}
 use native.Mathlib.Omega.{arith}
-use native.Mathlib.Numerals.{add-one}
-use lib.ListN.{length, getD, set, take, drop, length-set, length-append, length-take, length-drop}
-use lib.Seq.{
-  drop-cons,
-  set-at,
-  take-suc,
-  getD-drop,
-  getD-append-add,
-  getD-set-same,
-  getD-set-other,
-  drop-set-lt,
-}
+use lib.ListN.{length, getD, set, take, drop, length-set, length-drop}
+use lib.Seq.{drop-cons, getD-drop, getD-append-add, getD-set-same, getD-set-other, drop-set-lt, length-take-le}
+use Rattle.settle.proofs.Filling.{Filled, filled-starts, filled-more}
 
 -- ---- a pair is stored
 
@@ -39,49 +30,25 @@ pair-stored t k a b h =
     (drop-set-lt (suc (suc (k * 2))) (set t (k * 2) a) (k * 2 + 1) b (omega arith)
     ∙ drop-set-lt (suc (suc (k * 2))) t (k * 2) a (omega arith))))
 
--- ---- the loop of `move_down`
+-- ---- the loop of `move_down`: the table is filled from its start with what stands from a place on
 
--- a list of which the first n places are done, one more done
-put-next : (xs p xs₀ : List ℕ) (n v : ℕ) → length p ≡ n → n < length xs₀ → xs ≡ p ++ drop n xs₀ →
-    set xs n v ≡ (p ++ (v ∷ [])) ++ drop (n + 1) xs₀
-put-next xs p xs₀ n v e h q =
-    rw (q, drop-cons xs₀ n 0 h, add-one n, set-at p (getD xs₀ n 0) (drop (suc n) xs₀) v n e)
-    (sym (append-assoc p (v ∷ []) (drop (suc n) xs₀)))
+pub moving-starts : (t : List ℕ) (from : ℕ) → Filled (drop from t) t t 0
+moving-starts t from = filled-starts t 0 (omega arith) (rw length-drop (omega arith)) refl
 
-pub record Moving (t₀ : List ℕ) (from : ℕ) (t : List ℕ) (i : ℕ) : Type 0 where
-  pub fits : from + i ≤ length t₀
-  pub is : t ≡ take i (drop from t₀) ++ drop i t₀
-
-pub moving-starts : (t : List ℕ) (from : ℕ) → from ≤ length t → Moving t from t 0
-moving-starts t from h = record { fits = omega arith; is = refl }
-
-front-length : (t : List ℕ) (from i : ℕ) → from + i ≤ length t → length (take i (drop from t)) ≡ i
-front-length t from i h = simp (length-take, length-drop) (omega arith)
-
-pub moving-length : {t₀ : List ℕ} {from : ℕ} {t : List ℕ} {i : ℕ} → Moving t₀ from t i → length t ≡ length t₀
-moving-length {t₀} {from} {t} {i} b =
-    ap length (b .is) ∙ simp (length-append, length-drop) (omega (arith, front-length t₀ from i (b .fits), b .fits))
-
-pub moving-more : {t₀ : List ℕ} {from : ℕ} {t : List ℕ} {i : ℕ} → Moving t₀ from t i → from + i < length t₀ →
-    Moving t₀ from (set t i (getD t (from + i) 0)) (i + 1)
-moving-more {t₀} {from} {t} {i} b h =
+-- an entry that is not yet moved stands where it was
+still-there : {t₀ : List ℕ} (from : ℕ) {t : List ℕ} {i : ℕ} → Filled (drop from t₀) t₀ t i →
+    getD t (from + i) 0 ≡ getD (drop from t₀) i 0
+still-there {t₀} from {t} {i} b =
     let p = take i (drop from t₀) in
-    let e : length p ≡ i = front-length t₀ from i (b .fits) in
+    let e : length p ≡ i = length-take-le i (drop from t₀) (b .upto) in
     let f : from + i ≡ length p + from = omega arith in
-    let v : getD t (from + i) 0 ≡ getD (drop from t₀) i 0 =
     ap₂ (λ (x : List ℕ) (n : ℕ). getD x n 0) (b .is) f
     ∙ getD-append-add p (drop i t₀) from 0
     ∙ getD-drop i t₀ from 0
     ∙ ap (λ (n : ℕ). getD t₀ n 0) (omega arith)
     ∙ sym (getD-drop from t₀ i 0)
-    in
-    record {
-      fits = omega arith;
-      is =
-          put-next t p t₀ i (getD t (from + i) 0) e (omega arith) (b .is)
-          ∙ rw (v, add-one i, take-suc (drop from t₀) i 0 (rw length-drop (omega arith)));
-    }
 
-pub moving-ends : {t₀ : List ℕ} {from : ℕ} {t : List ℕ} {i : ℕ} (count : ℕ) → Moving t₀ from t i → i ≡ count →
-    t ≡ take count (drop from t₀) ++ drop count t₀
-moving-ends count b e = rw (sym e) (b .is)
+pub moving-more : {t₀ : List ℕ} (from : ℕ) {t : List ℕ} {i : ℕ} → Filled (drop from t₀) t₀ t i → from + i < length t₀ →
+    Filled (drop from t₀) t₀ (set t i (getD t (from + i) 0)) (i + 1)
+moving-more {t₀} from {t} {i} b h =
+    filled-more b (getD t (from + i) 0) 0 (rw length-drop (omega arith)) (still-there from b)

@@ -1,6 +1,6 @@
 -- The tops of all nodes, one gate after the other: the nodes before a gate have their tops, and the gate's is when its
 -- last pin is ready by these. Laws: readying-starts, readying-more, readying-ends; topping-starts, topping-small,
--- topping-more, topping-ends; top-read, tops-long; gate-fields, pin-within, driver-below. Assumes nothing.
+-- topping-more, topping-ends; top-read, tops-long. Assumes nothing.
 use mathlib.Core.Path.{_≡_, sym, ap, ap₂, _∙_}
 use mathlib.Core.Bool.{false}
 use mathlib.Core.List.{List}
@@ -13,50 +13,14 @@ use lib.Seq.{length-take-le, getD-take, getD-set-same, getD-set-other, ext-getD}
 use Rattle.netlist.specs.declared.Shape.{Shape}
 use Rattle.netlist.specs.declared.Gate.{Gate}
 use Rattle.netlist.specs.Netlist.{Netlist}
-use Rattle.netlist.specs.File.{netlistAt, cellAt, gateAt, pinAt, firstAt, countAt, driverAt, delayAt}
+use Rattle.netlist.specs.File.{netlistAt, cellAt, gateAt, pinAt, firstAt, driverAt, delayAt}
 use Rattle.netlist.specs.Holds.{Holds}
-use Rattle.netlist.proofs.Entries.{
-  gate-first,
-  gate-count,
-  pin-driver,
-  pin-delay,
-  pins-from,
-  pins-done,
-  net-inputs,
-  node-count,
-  node-has,
-}
+use Rattle.netlist.proofs.Entries.{pin-driver, pin-delay, pins-from, pins-done, net-inputs, node-count, node-has}
+use Rattle.netlist.proofs.GateRead.{gate-fields}
 use Rattle.settle.specs.Settling.{last, readyAt, topOf, topsOf, atZero}
 use Rattle.settle.proofs.Argument.{last-cong}
 use Rattle.settle.proofs.Nodes.{laid, runs, input-top, tops-length, tops-small}
 use Rattle.pairs.specs.Promise.{Tops}
-
--- a gate as it is read: its first pin and their number
-pub gate-fields : (file : List ℕ) (shape : Shape) (i : ℕ) (g : Gate) → g ≡ gateAt file shape i →
-    (g .first ≡ firstAt file shape i) × (g .count ≡ countAt file shape i)
-gate-fields file shape i g e = (
-  ap (λ (x : Gate). x .first) e ∙ gate-first file shape i,
-  ap (λ (x : Gate). x .count) e ∙ gate-count file shape i,
-)
-
--- a pin of a gate is one of the file's
-pub pin-within : {file : List ℕ} {shape : Shape} {number : ℕ} (g : Gate) → Holds file shape → number < shape .gates →
-    g ≡ gateAt file shape number → g .first + g .count ≤ shape .pins
-pin-within {file} {shape} {number} g holds h own =
-    let fields = gate-fields file shape number g own in
-    omega (arith, fields .0, fields .1, holds .pins-within number h)
-
--- and is driven from below the gate
-pub driver-below : {file : List ℕ} {shape : Shape} {number : ℕ} (g : Gate) (k driver : ℕ) → Holds file shape →
-    number < shape .gates → g ≡ gateAt file shape number → k < g .count →
-    driver ≡ driverAt file shape (g .first + k) → driver < shape .inputs + number
-driver-below {file} {shape} {number} g k driver holds h own l e =
-    let fields = gate-fields file shape number g own in
-    let low : firstAt file shape number ≤ g .first + k = omega (arith, fields .0) in
-    let high : g .first + k < firstAt file shape number + countAt file shape number =
-    omega (arith, fields .0, fields .1)
-    in
-    omega (arith, e, holds .drivers-below number (g .first + k) h low high)
 
 -- ---- when the last pin of a gate is ready
 

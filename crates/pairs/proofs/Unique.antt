@@ -12,16 +12,14 @@ use mathlib.Core.List.{
   List·Memᴰ·tail,
   List·Memᴰ·not-nil,
   List·Memᴰ·cases-cons,
-  Memᴰ·append-left,
-  Memᴰ·append-right,
 }
 use mathlib.Core.Logic.{_↔_, _⊎_, inl, inr}
 use Prim.Native.Nat.{ℕ, _+_, _≤_, _<_}
 use native.Mathlib.Omega.{arith}
 use lib.Dec.{T}
 use lib.ListN.{length}
-use Rattle.basics.specs.Lists.{all, concatMap, upFrom, numbered}
-use Rattle.basics.proofs.Lists.{mem-map, map-mem, concatMap-mem, keep-in, keep-passes, upFrom-mem}
+use Rattle.basics.specs.Lists.{all, upFrom, numbered}
+use Rattle.basics.proofs.Lists.{mem-map, map-mem, concatMap-mem, mem-concatMap, keep-in, keep-passes, upFrom-mem}
 use Rattle.netlist.specs.Netlist.{Cell, gateFits}
 use Rattle.pairs.specs.Pairs.{asked, Asked, timesAt, pairList}
 use Rattle.pairs.specs.Rising.{Before, Above, Rising}
@@ -86,12 +84,6 @@ module _ {A : Type 0} (Less : A → A → Type 0)
               (irreflexive a
               (transitive a x a (above-at Less a l (r .0) x i)
               (subst (λ (y : A). Less y a) (sym u) (above-at Less b m (s .0) a e))))
-
-mem-concatMap : {A B : Type 0} (f : A → List B) (l : List A) (x : A) (y : B) → List·Memᴰ x l → List·Memᴰ y (f x) →
-    List·Memᴰ y (concatMap f l)
-mem-concatMap {A} f (z ∷ l) x y (List·Memᴰ·head e) i =
-    Memᴰ·append-left (concatMap f l) (subst (λ (a : A). List·Memᴰ y (f a)) e i)
-mem-concatMap f (z ∷ l) x y (List·Memᴰ·tail m) i = Memᴰ·append-right (f z) (mem-concatMap f l x y m i)
 
 -- ---- the members of the list of the pairs
 

@@ -1,8 +1,8 @@
 -- The table as a whole: the pairs in its end, moved to the front, with zeros after them; and that the promise leaves
 -- one answer and one content. Laws: lent-length, filled-from, table-held, table-full; held-count, held-too-many;
--- held-unique; lists-for, held-lists, findable-for. Assumes nothing.
+-- held-unique; lists-for. Assumes nothing.
 use mathlib.Core.Path.{_≡_, refl, sym, ap, ap₂, _∙_}
-use mathlib.Core.List.{List, _++_, List·Memᴰ}
+use mathlib.Core.List.{List, _++_}
 use Prim.Native.Nat.{ℕ, _+_, _*_, _-_, _/_, _<_, _≤_, min}
 use native.Mathlib.Omega.{arith}
 use lib.ListN.{length, take, drop, replicate}
@@ -19,7 +19,7 @@ use Rattle.pairs.specs.declared.Listed.{Listed}
 use Rattle.pairs.specs.declared.Listed.the-variants.{Count, TooMany}
 use Rattle.pairs.specs.Pairs.{flatPairs, pairsFor}
 use Rattle.pairs.specs.Table.{Kept}
-use Rattle.pairs.specs.Promise.{pairsAt, Held, Lists, Findable}
+use Rattle.pairs.specs.Promise.{pairsAt, Held, Lists}
 use Rattle.pairs.proofs.Rising.{pairs-rising}
 use Rattle.pairs.proofs.Closed.{pair-for}
 use Rattle.pairs.proofs.Flat.{flat-length}
@@ -129,17 +129,3 @@ lists-for {file} {shape} target table n holds e f =
           let w = pair-for net (holds .valid) (atZero net) target (x .0) (x .1) m in
           omega (arith, w .3, tops-small net (holds .valid) (x .0));
     }
-
--- and such is what `table` leaves
-pub held-lists : {file : List ℕ} {shape : Shape} (target room : ℕ) (table : List ℕ) (n : ℕ) → Holds file shape →
-    Held (pairsAt file shape target) room table (Count n) → Lists table n (pairsAt file shape target)
-held-lists {file} {shape} target room table n holds h =
-    let l = pairsAt file shape target in
-    let f : length (flatPairs (pairsAt file shape target)) ≡ n * 2 = flat-length l ∙ omega (arith, h .0) in
-    lists-for target table n holds (h .0)
-    (ap (take (n * 2)) (h .2) ∙ take-at (flatPairs l) (replicate (room - n * 2) 0) (n * 2) f)
-
--- a pair of the list can be looked for in a table that lists them
-pub findable-for : {table : List ℕ} {count node time : ℕ} {pairs : List (ℕ × ℕ)} → Lists table count pairs →
-    List·Memᴰ (node, time) pairs → Findable table count node time
-findable-for {pairs = pairs} w m = record { pairs = pairs; lists = w; here = m }

@@ -1,10 +1,12 @@
--- The definitions run on circuit A: its pairs at T=3 and the table that they make; none at T=6.
+-- The definitions run on circuit A: its pairs at T=3 and the table that they make; none at T=6. Interface:
+-- pairsA.
 use mathlib.Core.Path.{_≡_, refl}
 use mathlib.Core.List.{[], _∷_}
 use Rattle.netlist.specs.Example.{describedA}
 use Rattle.settle.specs.Settling.{grow, topsOf, atZero}
 use Rattle.pairs.specs.Pairs.{asked, timesAt, pairList, pairsFor, flatPairs, placeOf}
 
+-- the pairs as a list, as the lent table, a pair's place, and none
 pub pairsA :
     (pairsFor describedA (atZero describedA) 3 ≡ (2, 1) ∷ (3, 2) ∷ (4, 3) ∷ [])
     × (flatPairs (pairsFor describedA (atZero describedA) 3) ≡ 2 ∷ 1 ∷ 3 ∷ 2 ∷ 4 ∷ 3 ∷ [])

@@ -1,5 +1,5 @@
 -- What a reader must believe of the pairs. Interface: all of Pairs; Rising (the order of the pairs); Promise (the
--- functions). Table serves the functions that are not public.
+-- functions); Example (circuit A). Table serves the functions that are not public.
 pub mod Pairs
 pub mod Rising
 pub mod Table

@@ -1,10 +1,9 @@
 -- The pairs of a target: "the least set holding each output's pair at T and, for each pair (f, t) and each pin of f,
 -- the driver's pair at t less the pin's delay". Interface: isPair, Asked (those words), pairList (the same as a list,
 -- in the order of the variables), pairsFor (of a netlist), flatPairs (the lent table), placeOf (a pair's place).
-use mathlib.Core.Path.{_≡_}
-use mathlib.Core.Bool.{Bool, true, false, not, _&&_, _||_, cond}
-use mathlib.Core.List.{List, [], _∷_, _++_, map, List·Memᴰ}
-use Prim.Native.Nat.{ℕ, zero, suc, _+_, _-_}
+use mathlib.Core.Bool.{Bool, not, _&&_, _||_, cond}
+use mathlib.Core.List.{List, [], _∷_, map, List·Memᴰ}
+use Prim.Native.Nat.{ℕ, suc, _+_, _-_}
 use lib.Dec.{T, leb, ltb, eqb}
 use Rattle.basics.specs.Lists.{any, keep, concatMap, upFrom, numbered}
 use Rattle.netlist.specs.Netlist.{Netlist, Cell, Pin}

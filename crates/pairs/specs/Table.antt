@@ -18,6 +18,7 @@ pairsIn [] = []
 pairsIn (a ∷ []) = []
 pairsIn (a ∷ b ∷ l) = (a, b) ∷ pairsIn l
 
+-- pair number k of a list
 abbrev pub pairAt : List (ℕ × ℕ) → ℕ → ℕ × ℕ
 pairAt l k = getD l k (0, 0)
 

@@ -26,14 +26,13 @@ use Rattle.settle.specs.Promise.{
   Evaluation,
   bits,
   byteWrong,
-  row,
   refused,
   settled,
   evaluationOf,
   evaluationBy,
   evaluation,
 }
-use Rattle.settle.specs.Steps.{choose, givenOf, Usable}
+use Rattle.settle.specs.Steps.{givenOf, Usable}
 
 -- ---- the first byte over 1
 
@@ -90,12 +89,12 @@ byGiven net vector valuesRoom timesRoom Fit = settled net vector valuesRoom time
 byGiven net vector valuesRoom timesRoom (Unfit refusal) = refused valuesRoom timesRoom refusal
 
 evaluation-rows : (a b c d : Bool) (net : Netlist) (vector : List ℕ) (valuesRoom timesRoom : ℕ) (p q r s : Refusal) →
-    row a (refused valuesRoom timesRoom p)
-    (row b (refused valuesRoom timesRoom q)
-    (row c (refused valuesRoom timesRoom r)
-    (row d (refused valuesRoom timesRoom s) (settled net vector valuesRoom timesRoom))))
+    cond a (refused valuesRoom timesRoom p)
+    (cond b (refused valuesRoom timesRoom q)
+    (cond c (refused valuesRoom timesRoom r)
+    (cond d (refused valuesRoom timesRoom s) (settled net vector valuesRoom timesRoom))))
     ≡ byGiven net vector valuesRoom timesRoom
-    (choose a (Unfit p) (choose b (Unfit q) (choose c (Unfit r) (choose d (Unfit s) Fit))))
+    (cond a (Unfit p) (cond b (Unfit q) (cond c (Unfit r) (cond d (Unfit s) Fit))))
 evaluation-rows true b c d net vector vs ts p q r s = refl
 evaluation-rows false true c d net vector vs ts p q r s = refl
 evaluation-rows false false true d net vector vs ts p q r s = refl
@@ -113,10 +112,10 @@ module _ (file : List ℕ) (shape : Shape) (vector : List ℕ) (valuesRoom times
   unfolding evaluationOf givenOf
   by-checks =
       ap₂ (λ (inputs nodes : ℕ).
-      row (not (eqb (length vector) inputs)) (refused valuesRoom timesRoom (Vector inputs))
-      (row (ltb (byteWrong vector) (length vector)) (refused valuesRoom timesRoom (Vector (byteWrong vector)))
-      (row (ltb valuesRoom nodes) (refused valuesRoom timesRoom (Room nodes))
-      (row (ltb timesRoom nodes) (refused valuesRoom timesRoom (Room nodes))
+      cond (not (eqb (length vector) inputs)) (refused valuesRoom timesRoom (Vector inputs))
+      (cond (ltb (byteWrong vector) (length vector)) (refused valuesRoom timesRoom (Vector (byteWrong vector)))
+      (cond (ltb valuesRoom nodes) (refused valuesRoom timesRoom (Room nodes))
+      (cond (ltb timesRoom nodes) (refused valuesRoom timesRoom (Room nodes))
       (settled (netlistAt file shape) vector valuesRoom timesRoom)))))
       (net-inputs file shape) (node-count file shape)
       ∙ evaluation-rows (not (eqb (length vector) (shape .inputs))) (ltb (byteWrong vector) (length vector))
@@ -148,10 +147,10 @@ module _ (file : List ℕ) (shape : Shape) (vector : List ℕ) (valuesRoom times
     where
       go : (a b c d : Bool) → eqb (length vector) (shape .inputs) ≡ a → ltb (byteWrong vector) (length vector) ≡ b →
           ltb valuesRoom (shape .inputs + shape .gates) ≡ c → ltb timesRoom (shape .inputs + shape .gates) ≡ d →
-          choose (not a) (Unfit (Vector (shape .inputs)))
-          (choose b (Unfit (Vector (byteWrong vector)))
-          (choose c (Unfit (Room (shape .inputs + shape .gates)))
-          (choose d (Unfit (Room (shape .inputs + shape .gates))) Fit)))
+          cond (not a) (Unfit (Vector (shape .inputs)))
+          (cond b (Unfit (Vector (byteWrong vector)))
+          (cond c (Unfit (Room (shape .inputs + shape .gates)))
+          (cond d (Unfit (Room (shape .inputs + shape .gates))) Fit)))
           ≡ Fit → Usable shape vector valuesRoom timesRoom
       go false b c d p q r s e = let w : _≡_ {A = ℕ} 0 1 = cc in absurd (omega arith)
       go true true c d p q r s e = let w : _≡_ {A = ℕ} 0 1 = cc in absurd (omega arith)

@@ -24,16 +24,16 @@ use lib.Seq.{getD-take, length-take-le}
 use Rattle.basics.proofs.Truth.{decide}
 use Rattle.netlist.specs.declared.Shape.{Shape}
 use Rattle.netlist.specs.declared.Gate.{Gate}
-use Rattle.netlist.specs.declared.Kind.{Kind}
 use Rattle.netlist.specs.Netlist.{Cell, Pin, nodes, takes}
 use Rattle.netlist.specs.Kinds.{bit}
-use Rattle.netlist.specs.File.{gateAt, cellAt, cellOf, netlistAt}
+use Rattle.netlist.specs.File.{gateAt, cellAt, cellOf, netlistAt, pinsFrom, firstAt, countAt}
 use Rattle.netlist.specs.Holds.{Holds}
-use Rattle.netlist.proofs.Entries.{gate-kind, gate-first, gate-count, pins-length, node-has, node-count, net-inputs}
+use Rattle.netlist.proofs.Entries.{node-has, node-count, net-inputs}
+use Rattle.netlist.proofs.GateRead.{gate-fields, gate-within, gate-takes}
 use Rattle.settle.specs.declared.Signal.{Signal}
 use Rattle.settle.specs.Settling.{readyAt, valuesOf, valueOf, timesOf, timeOf, atZero}
 use Rattle.settle.specs.Promise.{bits}
-use Rattle.settle.specs.Steps.{pinsAt, pinValue, pinReady, gateSignal, Wired, Begun, Done}
+use Rattle.settle.specs.Steps.{pinValue, pinReady, gateSignal, Wired, Begun, Done}
 use Rattle.settle.proofs.Argument.{settles-cong, gateValue-cong}
 use Rattle.settle.proofs.Nodes.{
   laid,
@@ -142,18 +142,18 @@ module _ {file : List ℕ} {shape : Shape} (h : Holds file shape) (vector : List
 
     -- what the gate gives is the netlist's value and time at its node
     pub gate-settled : (gate : Gate) → gate ≡ gateAt file shape number →
-        gateSignal doneValues doneTimes (gate .kind) (pinsAt file shape (gate .first) (gate .count))
+        gateSignal doneValues doneTimes (gate .kind) (pinsFrom file shape (gate .first) (gate .count))
         ≡ record {
           value = valueOf (netlistAt file shape) vector (shape .inputs + number);
           at =
               timeOf (netlistAt file shape) (atZero (netlistAt file shape)) vector (shape .inputs + number);
         }
-    unfolding gateSignal pinsAt cellAt cellOf
+    unfolding gateSignal pinsFrom cellAt cellOf
     gate-settled gate e =
         let facts =
         runs (netlistAt file shape) (h .valid) (atZero (netlistAt file shape)) zeros-long vector vector-long
         in
-        ap (λ (g : Gate). gateSignal doneValues doneTimes (g .kind) (pinsAt file shape (g .first) (g .count))) e
+        ap (λ (g : Gate). gateSignal doneValues doneTimes (g .kind) (pinsFrom file shape (g .first) (g .count))) e
         ∙ ap₂ (λ (v : Bool) (t : ℕ). record { value = v; at = t })
         (gateValue-cong (pinValue doneValues) (λ (p : Pin). valueOf (netlistAt file shape) vector (p .driver))
         (cellAt file shape number .kind) (cellAt file shape number .pins) pin-value
@@ -163,21 +163,11 @@ module _ {file : List ℕ} {shape : Shape} (h : Holds file shape) (vector : List
         (cellAt file shape number .kind) (cellAt file shape number .pins) pin-value pin-ready
         ∙ sym (facts .time-fixed _ _ member))
 
-    -- a gate of the file has the pins that its kind takes
-    pub gate-takes : (gate : Gate) → gate ≡ gateAt file shape number → T (takes (gate .kind) (gate .count))
-    gate-takes gate e =
-        subst (λ (g : Gate). T (takes (g .kind) (g .count))) (sym e)
-        (subst (λ (n : ℕ). T (takes (gateAt file shape number .kind) n))
-        (pins-length file shape number ∙ sym (gate-count file shape number))
-        (subst (λ (k : Kind). T (takes k (length (cellAt file shape number .pins)))) (sym (gate-kind file shape number))
-        (laid (netlistAt file shape) (h .valid) .taken _ _ member)))
-
-    -- and they are driven from the nodes before it
+    -- its pins are driven from the nodes before it
     pub gate-wired : (gate : Gate) → gate ≡ gateAt file shape number →
         Wired file shape (gate .first) (gate .count) doneValues doneTimes
     gate-wired gate e =
-        let first = ap (λ (g : Gate). g .first) e ∙ gate-first file shape number in
-        let count = ap (λ (g : Gate). g .count) e ∙ gate-count file shape number in
+        let fields = gate-fields file shape number gate e in
         let a : length doneValues ≡ shape .inputs + number =
         length-take-le (shape .inputs + number) (allValues file shape vector) (omega (arith, all-values-length))
         in
@@ -186,8 +176,14 @@ module _ {file : List ℕ} {shape : Shape} (h : Holds file shape) (vector : List
         in
         record {
           tables = h .tables;
-          within = omega (arith, h .pins-within number within);
-          drivers = λ pin l u. omega (arith, h .drivers-below number pin within (omega arith) (omega arith));
+          within = gate-within gate h within e;
+          drivers =
+              λ pin l u.
+              let low : firstAt file shape number ≤ pin = omega (arith, fields .0) in
+              let high : pin < firstAt file shape number + countAt file shape number =
+              omega (arith, fields .0, fields .1)
+              in
+              omega (arith, h .drivers-below number pin within low high);
           paired = b ∙ sym a;
           early =
               take-within 447552 (shape .inputs + number) (allTimes file shape vector)
@@ -247,13 +243,13 @@ module _ {file : List ℕ} {shape : Shape} {values₀ times₀ : List ℕ} (h : 
           (gate-wired h vector vector-is number within gate e)
 
       pub gating-takes : T (takes (gate .kind) (gate .count))
-      gating-takes = gate-takes h vector vector-is number within gate e
+      gating-takes = gate-takes gate h within e
 
       -- one gate more
       pub gating-more : (signal : Signal) (stored : ℕ) →
           signal
           ≡ gateSignal (take (shape .inputs + number) values) (take (shape .inputs + number) times) (gate .kind)
-          (pinsAt file shape (gate .first) (gate .count)) →
+          (pinsFrom file shape (gate .first) (gate .count)) →
           stored ≡ bit (signal .value) →
           Gating file shape values₀ times₀
           (set values (shape .inputs + number) stored)
@@ -265,7 +261,7 @@ module _ {file : List ℕ} {shape : Shape} {values₀ times₀ : List ℕ} (h : 
           let t = all-times-length h vector vector-is in
           let is =
           s
-          ∙ ap₂ (λ (x y : List ℕ). gateSignal x y (gate .kind) (pinsAt file shape (gate .first) (gate .count)))
+          ∙ ap₂ (λ (x y : List ℕ). gateSignal x y (gate .kind) (pinsFrom file shape (gate .first) (gate .count)))
           (filled-done (g .values-done))
           (filled-done (g .times-done))
           ∙ gate-settled h vector vector-is number within gate e

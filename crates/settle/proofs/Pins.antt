@@ -3,31 +3,21 @@
 -- Assumes nothing.
 use mathlib.Core.Path.{_≡_, refl, sym, ap, ap₂, _∙_, subst}
 use mathlib.Core.Bool.{Bool, true, false, not, _||_, Bool·beq, cond}
-use mathlib.Core.List.{List, [], _∷_, map}
-use Prim.Native.Nat.{ℕ, zero, suc, _+_, _-_, _≤_, _<_, max, min}
+use mathlib.Core.List.{List, [], _∷_}
+use Prim.Native.Nat.{ℕ, suc, _+_, _-_, _≤_, _<_, max, min}
 use native.Mathlib.Omega.{arith}
 use native.Mathlib.Numerals.{add-one}
-use lib.Dec.{T}
-use Rattle.basics.specs.Lists.{any, upFrom}
+use Rattle.basics.specs.Lists.{any}
 use Rattle.basics.proofs.Truth.{by-table-of-three}
 use Rattle.netlist.specs.declared.Shape.{Shape}
-use Rattle.netlist.specs.declared.Kind.{Kind}
 use Rattle.netlist.specs.declared.Kind.the-variants.{Simple, Parity, Mux}
-use Rattle.netlist.specs.Netlist.{Pin, takes}
-use Rattle.netlist.specs.File.{pinAt}
-use Rattle.netlist.proofs.Valid.{takes-parity, takes-mux}
+use Rattle.netlist.specs.Netlist.{Pin}
+use Rattle.netlist.specs.File.{pinAt, pinsFrom}
+use Rattle.netlist.proofs.Pins.{pins-next, pins-none}
 use Rattle.settle.specs.declared.Signal.{Signal}
 use Rattle.settle.specs.declared.Scan.{Scan}
 use Rattle.settle.specs.Settling.{gateValue, settles, atValue, last, first, firstOr}
-use Rattle.settle.specs.Steps.{pinsAt, pinValue, pinReady, pinSignal, gateSignal, withPin, scanOf, Wired}
-
--- a parity gate has two pins, a multiplexer three
-pub parity-count : {kind : Kind} {equal : Bool} {count : ℕ} → kind ≡ Parity equal → T (takes kind count) → count ≡ 2
-parity-count {kind} {equal} {count} e t =
-    takes-parity equal count (subst (λ (k : Kind). T (takes k count)) e t)
-
-pub mux-count : {kind : Kind} {count : ℕ} → kind ≡ Mux → T (takes kind count) → count ≡ 3
-mux-count {kind} {count} e t = takes-mux count (subst (λ (k : Kind). T (takes k count)) e t)
+use Rattle.settle.specs.Steps.{pinValue, pinReady, pinSignal, gateSignal, withPin, scanOf, Wired}
 
 -- one pin of those that are wired
 pub wired-pin : {file : List ℕ} {shape : Shape} {first count : ℕ} {values times : List ℕ} →
@@ -51,14 +41,14 @@ wired-as {file} {shape} {first} {count} {n} {values} {times} e w =
 -- ---- two and three pins
 
 pub two-pins : (file : List ℕ) (shape : Shape) (first : ℕ) →
-    pinsAt file shape first 2 ≡ pinAt file shape first ∷ pinAt file shape (first + 1) ∷ []
-unfolding pinsAt
+    pinsFrom file shape first 2 ≡ pinAt file shape first ∷ pinAt file shape (first + 1) ∷ []
+unfolding pinsFrom
 two-pins file shape first = rw (add-one first)
 
 pub three-pins : (file : List ℕ) (shape : Shape) (first : ℕ) →
-    pinsAt file shape first 3
+    pinsFrom file shape first 3
     ≡ pinAt file shape first ∷ pinAt file shape (first + 1) ∷ pinAt file shape (first + 2) ∷ []
-unfolding pinsAt
+unfolding pinsFrom
 three-pins file shape first =
     let e : suc first ≡ first + 1 = omega arith in
     let f : suc (suc first) ≡ first + 2 = omega arith in
@@ -179,21 +169,13 @@ module _ (values times : List ℕ) (c : Bool) where
 pub record Scanning (file : List ℕ) (shape : Shape) (begin count : ℕ) (values times : List ℕ) (c : Bool) (scan : Scan)
     (left : ℕ) : Type 0 where
   pub upto : left ≤ count
-  pub is : scan ≡ scanOf values times c (pinsAt file shape (begin + left) (count - left))
+  pub is : scan ≡ scanOf values times c (pinsFrom file shape (begin + left) (count - left))
 
 pub scanning-starts : (file : List ℕ) (shape : Shape) (begin count : ℕ) (values times : List ℕ) (c : Bool) →
     Scanning file shape begin count values times c (record { some = false; first = 0; last = 0 }) count
-unfolding scanOf pinsAt
+unfolding scanOf
 scanning-starts file shape begin count values times c =
-    let e : count - count ≡ 0 = omega arith in record { upto = omega arith; is = rw e }
-
-pins-more : (file : List ℕ) (shape : Shape) (begin count : ℕ) → 0 < count →
-    pinsAt file shape begin count ≡ pinAt file shape begin ∷ pinsAt file shape (suc begin) (count - 1)
-unfolding pinsAt
-pins-more file shape begin zero h = absurd (omega arith)
-pins-more file shape begin (suc n) h =
-    let e : n ≡ suc n - 1 = omega arith in
-    ap (λ (m : ℕ). pinAt file shape begin ∷ map (pinAt file shape) (upFrom (suc begin) m)) e
+    record { upto = omega arith; is = rw (pins-none file shape begin count count (omega arith)) }
 
 pub scanning-more : {file : List ℕ} {shape : Shape} {begin count : ℕ} {values times : List ℕ} {c : Bool} {scan : Scan}
     {left : ℕ} → Scanning file shape begin count values times c scan left → 0 < left → (pin : Signal) (next : Scan) →
@@ -202,8 +184,7 @@ pub scanning-more : {file : List ℕ} {shape : Shape} {begin count : ℕ} {value
     Scanning file shape begin count values times c next (left - 1)
 unfolding scanOf pinSignal
 scanning-more {file} {shape} {begin} {count} {values} {times} {c} {scan} {left} b h pin next p q =
-    let e : suc (begin + (left - 1)) ≡ begin + left = omega arith in
-    let f : count - (left - 1) - 1 ≡ count - left = omega (arith, b .upto) in
+    let e : left - 1 + 1 ≡ left = omega arith in
     record {
       upto = omega (arith, b .upto);
       is =
@@ -211,14 +192,14 @@ scanning-more {file} {shape} {begin} {count} {values} {times} {c} {scan} {left} 
           ∙ ap₂ (λ (s : Scan) (x : Signal). withPin s (Bool·beq (x .value) c) (x .at)) (b .is) p
           ∙ sym
           (ap (scanOf values times c)
-          (pins-more file shape (begin + (left - 1)) (count - (left - 1)) (omega (arith, b .upto))
-          ∙ ap₂ (λ (n m : ℕ). pinAt file shape (begin + (left - 1)) ∷ pinsAt file shape n m) e f));
+          (pins-next file shape begin count (left - 1) (omega (arith, b .upto))
+          ∙ ap (λ (n : ℕ). pinAt file shape (begin + (left - 1)) ∷ pinsFrom file shape (begin + n) (count - n)) e));
     }
 
 pub scanning-ends : {file : List ℕ} {shape : Shape} {begin count : ℕ} {values times : List ℕ} {c : Bool} {scan : Scan}
     {left : ℕ} → Scanning file shape begin count values times c scan left → left ≤ 0 →
-    scan ≡ scanOf values times c (pinsAt file shape begin count)
+    scan ≡ scanOf values times c (pinsFrom file shape begin count)
 scanning-ends {file} {shape} {begin} {count} {values} {times} {c} {scan} {left} b h =
     let e : begin + left ≡ begin = omega arith in
     let f : count - left ≡ count = omega arith in
-    b .is ∙ ap₂ (λ (n m : ℕ). scanOf values times c (pinsAt file shape n m)) e f
+    b .is ∙ ap₂ (λ (n m : ℕ). scanOf values times c (pinsFrom file shape n m)) e f

@@ -1,10 +1,11 @@
--- Document 01's cases on settling marked P, on the bytes of their files: one table, and one statement over it.
+-- Document 01's cases on settling marked P, on the bytes of their files: one table, and one statement over it; and the
+-- tops of circuit A. Interface: Case, cases, cases-hold, tops-hold.
 use mathlib.Core.Path.{_≡_, refl}
 use mathlib.Core.List.{List, [], _∷_, map}
-use Prim.Native.Nat.{ℕ, _-_}
+use Prim.Native.Nat.{ℕ}
 use lib.ListN.{length}
 use Rattle.netlist.specs.Kinds.{fewest, most, kindOf}
-use Rattle.netlist.specs.File.{tableBytes, shapeOf, gateAt, pinAt, cellOf, cellAt, netlistAt, netlistOf}
+use Rattle.netlist.specs.File.{tableBytes, shapeOf, gateAt, pinAt, cellOf, cellAt, netlistAt, netlistOf, pinsFrom}
 use Rattle.netlist.specs.Open.{
   openOf,
   firstWrong,
@@ -49,6 +50,7 @@ muxOfThree =
 abbrev settlesAt : ℕ → List ℕ → List ℕ → Evaluation
 settlesAt time values times = record { answer = At time; values = values; times = times }
 
+-- a file, a vector, and what they give
 abbrev case : List ℕ → List ℕ → Evaluation → Case
 case file vector expected = record { file = file; vector = vector; expected = expected }
 
@@ -78,11 +80,12 @@ run c = evaluation (c .file) (c .vector) (length (c .expected .values)) (length 
 pub cases-hold : map run cases ≡ map (λ c. c .expected) cases
 unfolding
     cases circuitA xorTwice muxOfThree openOf firstWrong countWrong backWrong pinsBefore gateWrong gatePlace sumWrong
-    pinsAt pinWrong pinPlace outputWrong outputPlace fewest most kindOf tableBytes shapeOf gateAt pinAt cellOf cellAt
-    netlistAt gateValue settles grow valuesOf timesOf circuitTime evaluation evaluationOf settled byteWrong
+    pinsAt pinWrong pinPlace outputWrong outputPlace fewest most kindOf tableBytes shapeOf gateAt pinAt pinsFrom
+    cellOf cellAt netlistAt gateValue settles grow valuesOf timesOf circuitTime evaluation evaluationOf settled
+    byteWrong
 cases-hold = refl
 
 -- "Topological delay 5": the tops of circuit A
 pub tops-hold : topsOf (netlistOf circuitA) (atZero (netlistOf circuitA)) ≡ 0 ∷ 0 ∷ 3 ∷ 4 ∷ 5 ∷ []
-unfolding circuitA kindOf tableBytes shapeOf gateAt pinAt cellOf cellAt netlistAt grow topsOf
+unfolding circuitA kindOf tableBytes shapeOf gateAt pinAt pinsFrom cellOf cellAt netlistAt grow topsOf
 tops-hold = refl

@@ -1,11 +1,10 @@
 -- What `evaluate` answers and leaves in the two lent slices, for every input: 1..8, then 9 for values, then for times.
 -- Interface: evaluation.
-use mathlib.Core.Bool.{Bool, true, false, not, cond}
-use mathlib.Core.List.{List, [], _∷_, _++_, map}
-use Prim.Native.Nat.{ℕ, _+_, _-_}
+use mathlib.Core.Bool.{Bool, not, cond}
+use mathlib.Core.List.{List, _++_, map}
+use Prim.Native.Nat.{ℕ, _-_}
 use lib.Dec.{eqb, ltb}
 use lib.ListN.{length, replicate}
-use Rattle.basics.specs.Lists.{upFrom}
 use Rattle.refusal.specs.declared.Refusal.{Refusal}
 use Rattle.refusal.specs.declared.Refusal.the-variants.{Vector, Room}
 use Rattle.netlist.specs.declared.Opened.{Opened}
@@ -33,11 +32,6 @@ abbrev pub refused : ℕ → ℕ → Refusal → Evaluation
 refused valuesRoom timesRoom refusal =
     record { answer = Refused refusal; values = replicate valuesRoom 0; times = replicate timesRoom 0 }
 
--- a row of the table: refused when, or on to the next row
-abbrev pub row : Bool → Evaluation → Evaluation → Evaluation
-row true refusal next = refusal
-row false refusal next = next
-
 -- values and times, and zeros in "whatever part wasn't needed"
 unfoldable pub settled : Netlist → List ℕ → ℕ → ℕ → Evaluation
 settled net vector valuesRoom timesRoom =
@@ -51,13 +45,13 @@ settled net vector valuesRoom timesRoom =
 unfoldable pub byteWrong : List ℕ → ℕ
 byteWrong vector = firstWrong (ltb 1) vector
 
--- of an accepted netlist
+-- of an accepted netlist: each row refuses when its test passes; otherwise the next is asked
 unfoldable pub evaluationOf : Netlist → List ℕ → ℕ → ℕ → Evaluation
 evaluationOf net vector valuesRoom timesRoom =
-    row (not (eqb (length vector) (net .inputs))) (refused valuesRoom timesRoom (Vector (net .inputs)))
-    (row (ltb (byteWrong vector) (length vector)) (refused valuesRoom timesRoom (Vector (byteWrong vector)))
-    (row (ltb valuesRoom (nodeCount net)) (refused valuesRoom timesRoom (Room (nodeCount net)))
-    (row (ltb timesRoom (nodeCount net)) (refused valuesRoom timesRoom (Room (nodeCount net)))
+    cond (not (eqb (length vector) (net .inputs))) (refused valuesRoom timesRoom (Vector (net .inputs)))
+    (cond (ltb (byteWrong vector) (length vector)) (refused valuesRoom timesRoom (Vector (byteWrong vector)))
+    (cond (ltb valuesRoom (nodeCount net)) (refused valuesRoom timesRoom (Room (nodeCount net)))
+    (cond (ltb timesRoom (nodeCount net)) (refused valuesRoom timesRoom (Room (nodeCount net)))
     (settled net vector valuesRoom timesRoom))))
 
 -- of what was opened

@@ -1,7 +1,7 @@
 -- Document 01's section "Settling", sentence by sentence. Interface: all of it.
-use mathlib.Core.Bool.{Bool, true, false, not, Bool·beq, cond}
-use mathlib.Core.List.{List, [], _∷_, _++_, map}
-use Prim.Native.Nat.{ℕ, zero, suc, _+_, max, min}
+use mathlib.Core.Bool.{Bool, false, not, Bool·beq, cond}
+use mathlib.Core.List.{List, [], _∷_, _++_}
+use Prim.Native.Nat.{ℕ, _+_, max, min}
 use lib.ListN.{getD, replicate}
 use Rattle.basics.specs.Lists.{any}
 use Rattle.netlist.specs.declared.Kind.{Kind}

@@ -1,18 +1,17 @@
 -- What the functions under `evaluate` lean on and what each of them makes, step by step. Serves their contracts alone:
 -- Promise says what `evaluate` does, and does not cite it.
 use mathlib.Core.Path.{_≡_}
-use mathlib.Core.Bool.{Bool, true, false, not, _||_, Bool·beq, cond}
+use mathlib.Core.Bool.{Bool, false, not, _||_, Bool·beq, cond}
 use mathlib.Core.List.{List, [], _∷_, _++_, map}
 use Prim.Native.Nat.{ℕ, _+_, _≤_, _<_, max, min}
 use lib.Dec.{eqb, ltb}
 use lib.ListN.{length, getD, take, drop, replicate}
-use Rattle.basics.specs.Lists.{upFrom}
 use Rattle.refusal.specs.declared.Refusal.the-variants.{Vector, Room}
 use Rattle.netlist.specs.declared.Kind.{Kind}
 use Rattle.netlist.specs.declared.Shape.{Shape}
 use Rattle.netlist.specs.Netlist.{Pin}
 use Rattle.netlist.specs.Kinds.{bit}
-use Rattle.netlist.specs.File.{driverAt, pinAt, netlistAt}
+use Rattle.netlist.specs.File.{driverAt, netlistAt}
 use Rattle.netlist.specs.Holds.{Tables}
 use Rattle.settle.specs.declared.Signal.{Signal}
 use Rattle.settle.specs.declared.Scan.{Scan}
@@ -22,10 +21,6 @@ use Rattle.settle.specs.Settling.{gateValue, settles, readyAt, valuesOf,
 use Rattle.settle.specs.Promise.{bits, byteWrong}
 
 -- ---- a gate's pins, over the lent slices
-
--- the pins from number `first` on, so many
-unfoldable pub pinsAt : List ℕ → Shape → ℕ → ℕ → List Pin
-pinsAt file shape first count = map (pinAt file shape) (upFrom first count)
 
 -- a pin's value, by a slice of values
 abbrev pub pinValue : List ℕ → Pin → Bool
@@ -100,14 +95,10 @@ pub record Usable (shape : Shape) (vector : List ℕ) (valuesRoom timesRoom : �
 
 -- ---- 8 VECTOR, then 9 ROOM for values, then for times
 
--- a row of the table: unfit when, or on to the next row
-abbrev pub choose : Bool → Given → Given → Given
-choose true found next = found
-choose false found next = next
-
+-- each row is unfit when its test passes; otherwise the next is asked
 unfoldable pub givenOf : ℕ → ℕ → List ℕ → ℕ → ℕ → Given
 givenOf inputs nodes vector valuesRoom timesRoom =
-    choose (not (eqb (length vector) inputs)) (Unfit (Vector inputs))
-    (choose (ltb (byteWrong vector) (length vector)) (Unfit (Vector (byteWrong vector)))
-    (choose (ltb valuesRoom nodes) (Unfit (Room nodes))
-    (choose (ltb timesRoom nodes) (Unfit (Room nodes)) Fit)))
+    cond (not (eqb (length vector) inputs)) (Unfit (Vector inputs))
+    (cond (ltb (byteWrong vector) (length vector)) (Unfit (Vector (byteWrong vector)))
+    (cond (ltb valuesRoom nodes) (Unfit (Room nodes))
+    (cond (ltb timesRoom nodes) (Unfit (Room nodes)) Fit)))

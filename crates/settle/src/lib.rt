@@ -10,12 +10,12 @@ ghost use lib.Dec.{T};
 ghost use lib.ListN.{length, getD, take, replicate};
 ghost use Rattle.netlist.specs.Kinds.{bit};
 ghost use Rattle.netlist.specs.Netlist.{takes};
-ghost use Rattle.netlist.specs.File.{pinAt, netlistAt};
+ghost use Rattle.netlist.specs.File.{pinAt, netlistAt, pinsFrom};
 ghost use Rattle.netlist.specs.Holds.{Holds};
 ghost use Rattle.netlist.specs.declared.Kind.the-variants.{Simple, Parity, Mux};
 ghost use Rattle.settle.specs.Settling.{last};
 ghost use Rattle.settle.specs.Promise.{bits, byteWrong, settled, evaluationOf, evaluation};
-ghost use Rattle.settle.specs.Steps.{pinsAt, pinSignal, gateSignal, withPin, givenOf};
+ghost use Rattle.settle.specs.Steps.{pinSignal, gateSignal, withPin, givenOf};
 ghost use Rattle.settle.specs.Steps.{Wired, Entered, Begun, Done, Usable};
 
 // The circuit's settling time, or a refusal.
@@ -114,7 +114,7 @@ fn simple_signal(
     requires { ⌜ Wired (now file) shape first count (now values) (now times) ⌝ }
     ensures { λ r. ⌜
         r ≡ gateSignal (now (values .entry)) (now (times .entry)) (Simple c k)
-        (pinsAt (now (file .entry)) shape first count) ⌝ }
+        (pinsFrom (now (file .entry)) shape first count) ⌝ }
 {
     let mut scan = Scan {
         some: false,
@@ -151,7 +151,7 @@ fn parity_signal(
     requires { ⌜ Wired (now file) shape first 2 (now values) (now times) ⌝ }
     ensures { λ r. ⌜
         r ≡ gateSignal (now (values .entry)) (now (times .entry)) (Parity equal)
-        (pinsAt (now (file .entry)) shape first 2) ⌝ }
+        (pinsFrom (now (file .entry)) shape first 2) ⌝ }
 {
     let a = pin_signal(file, shape, first, values, times);
     let b = pin_signal(file, shape, first + 1, values, times);
@@ -166,7 +166,7 @@ fn mux_signal(file: &[u8], shape: Shape, first: usize, values: &[u8], times: &[u
     requires { ⌜ Wired (now file) shape first 3 (now values) (now times) ⌝ }
     ensures { λ r. ⌜
         r ≡ gateSignal (now (values .entry)) (now (times .entry)) Mux
-        (pinsAt (now (file .entry)) shape first 3) ⌝ }
+        (pinsFrom (now (file .entry)) shape first 3) ⌝ }
 {
     let select = pin_signal(file, shape, first, values, times);
     let a = pin_signal(file, shape, first + 1, values, times);
@@ -191,7 +191,7 @@ fn gate_signal(file: &[u8], shape: Shape, gate: Gate, values: &[u8], times: &[u3
         × T (takes (gate .kind) (gate .count)) ⌝ }
     ensures { λ r. ⌜
         r ≡ gateSignal (now (values .entry)) (now (times .entry)) (gate .kind)
-        (pinsAt (now (file .entry)) shape (gate .first) (gate .count)) ⌝ }
+        (pinsFrom (now (file .entry)) shape (gate .first) (gate .count)) ⌝ }
 {
     let kind = gate.kind;
     let first = gate.first;

@@ -6,8 +6,6 @@
 use netlist::Opened;
 use refusal::Refusal;
 use settle::Settled;
-ghost use Prim.Native.Nat.{_≤_};
-ghost use lib.ListN.{length};
 
 // How many nodes the netlist has; none where it is refused.
 fn node_count(file: &[u8]) -> usize {

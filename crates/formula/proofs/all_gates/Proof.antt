@@ -7,8 +7,9 @@ use lib.ListN.{drop}
 use Rattle.netlist.specs.Netlist.{nodes}
 use Rattle.netlist.specs.File.{netlistAt}
 use Rattle.netlist.proofs.Entries.{nodes-from, nodes-done}
+use Rattle.netlist.proofs.GateRead.{gate-within, gate-takes}
 use Rattle.formula.specs.Emission.{cellRun}
-use Rattle.formula.proofs.Gates.{gate-read, gate-run}
+use Rattle.formula.proofs.Gates.{gate-run}
 use Rattle.formula.proofs.Emission.{Emitting}
 use Rattle.formula.proofs.Emission as E
 use Rattle.formula.proofs.all_gates.Statement.{statement}
@@ -38,15 +39,14 @@ gate-clauses-requires c κs =
     let loop = c .before .before .before .before .before .loop in
     let args = c .before .before .before .before .before .before .before .args in
     let pre = c .before .before .before .before .before .before .before .pre in
-    let read = gate-read (args .file .now) (args .shape) (pre .0) (loop .i) (if1 .taken) _ (gate-at .ensures .0) in
     let few = E.emitting-few (loop .inv .1) in
     let gates = pre .0 .gates-few in
     let inputs = pre .0 .inputs-few in
     let room = pre .1 .place in (
       pre .0 .tables,
-      read .within,
+      gate-within _ (pre .0) (if1 .taken) (gate-at .ensures .0),
       gate-at .ensures .2,
-      read .takes-them,
+      gate-takes _ (pre .0) (if1 .taken) (gate-at .ensures .0),
       omega arith,
       record
           { place = omega arith; fewer = few .1 },
@@ -69,7 +69,7 @@ loop-again c =
       E.emitting-more _ (loop .inv .1)
           (rw (add-one (loop .i)) (nodes-from (args .file .now) (args .shape) (loop .i) (if1 .taken)))
           (E.emits-as 1040 (c .before .gate-clauses .ensures)
-          (gate-run (args .file .now) (args .shape) (pre .0) (loop .i) (if1 .taken) _ (gate-at .ensures .0))
+          (gate-run (args .file .now) (args .shape) (loop .i) _ (gate-at .ensures .0))
           (omega arith)),
     )
 

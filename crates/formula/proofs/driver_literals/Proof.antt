@@ -1,14 +1,14 @@
 -- `formula::driver_literals` meets its contract: pin after pin, each puts its literal. Assumes nothing.
 use mathlib.Core.Path.{_≡_, refl}
 use mathlib.Core.List.{[], _∷_}
-use Rattle.netlist.specs.File.{pinAt}
+use Rattle.netlist.specs.File.{pinAt, pinsFrom}
 use Prim.Native.Nat.{_+_, _-_, _≤_}
 use native.Mathlib.Omega.{arith}
 use borrow.Author.Needs.{needs}
-use Rattle.formula.specs.Emission.{coded, driverRun, pinsFrom}
+use Rattle.formula.specs.Emission.{coded, driverRun}
 use Rattle.formula.proofs.Emission.{Emitting}
 use Rattle.formula.proofs.Emission as E
-use Rattle.formula.proofs.Pins as P
+use Rattle.netlist.proofs.Pins as P
 use Rattle.formula.proofs.driver_literals.Statement.{statement}
 use Rattle.formula.proofs.driver_literals.Tie as tie
 
@@ -65,7 +65,7 @@ same-length c = E.emitting-length (c .before .loop .inv .1)
 
 returns : tie.Need-returns Inv-loop μ-loop
 returns c =
-    E.emits-as 256 (E.emitting-ends (c .before .loop .inv .1) (P.pins-done _ _ _ _ _ (c .loop-test .left))) refl
+    E.emits-as 256 (E.emitting-ends (c .before .loop .inv .1) (P.pins-none _ _ _ _ _ (c .loop-test .left))) refl
     (omega arith)
 
 pub driver-literals-spec : {M : Type 1} → statement M

@@ -4,10 +4,9 @@ use mathlib.Core.Path.{sym, _∙_}
 use Prim.Native.Nat.{_+_, _-_, _≤_}
 use native.Mathlib.Omega.{arith}
 use borrow.Author.Needs.{needs}
-use Rattle.netlist.specs.File.{pinAt}
-use Rattle.formula.specs.Emission.{pinsFrom}
+use Rattle.netlist.specs.File.{pinAt, pinsFrom}
 use Rattle.formula.specs.Late.{sureAt, topIn}
-use Rattle.formula.proofs.Pins as P
+use Rattle.netlist.proofs.Pins as P
 use Rattle.formula.proofs.driver_sure.Statement.{statement}
 use Rattle.formula.proofs.driver_sure.Tie as tie
 
@@ -79,7 +78,7 @@ loop-again c =
     )
 
 returns-2 : tie.Need-returns-2 Inv-loop μ-loop
-returns-2 c = seeking-ends (c .before .loop .inv .1) (P.pins-done _ _ _ _ _ (c .loop-test .left))
+returns-2 c = seeking-ends (c .before .loop .inv .1) (P.pins-none _ _ _ _ _ (c .loop-test .left))
 
 pub driver-sure-spec : {M : Type 1} → statement M
 driver-sure-spec =

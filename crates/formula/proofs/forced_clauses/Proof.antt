@@ -1,14 +1,14 @@
 -- `formula::forced_clauses` meets its contract: pin after pin, each puts its run. Assumes nothing.
 use mathlib.Core.Path.{_≡_, refl}
 use mathlib.Core.List.{[], _∷_}
-use Rattle.netlist.specs.File.{pinAt}
+use Rattle.netlist.specs.File.{pinAt, pinsFrom}
 use Prim.Native.Nat.{_+_, _-_, _≤_}
 use native.Mathlib.Omega.{arith}
 use borrow.Author.Needs.{needs}
-use Rattle.formula.specs.Emission.{coded, ended, forcedRun, pinsFrom}
+use Rattle.formula.specs.Emission.{coded, ended, forcedRun}
 use Rattle.formula.proofs.Emission.{Emitting}
 use Rattle.formula.proofs.Emission as E
-use Rattle.formula.proofs.Pins as P
+use Rattle.netlist.proofs.Pins as P
 use Rattle.formula.proofs.forced_clauses.Statement.{statement}
 use Rattle.formula.proofs.forced_clauses.Tie as tie
 
@@ -72,7 +72,7 @@ same-length c = E.emitting-length (c .before .loop .inv .1)
 
 returns : tie.Need-returns Inv-loop μ-loop
 returns c =
-    E.emits-as 768 (E.emitting-ends (c .before .loop .inv .1) (P.pins-done _ _ _ _ _ (c .loop-test .left))) refl
+    E.emits-as 768 (E.emitting-ends (c .before .loop .inv .1) (P.pins-none _ _ _ _ _ (c .loop-test .left))) refl
     (omega arith)
 
 pub forced-clauses-spec : {M : Type 1} → statement M

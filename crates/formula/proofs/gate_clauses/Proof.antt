@@ -3,8 +3,9 @@
 use mathlib.Core.Path.{_≡_}
 use native.Mathlib.Omega.{arith}
 use Rattle.netlist.specs.File.{pinAt}
+use Rattle.netlist.proofs.Valid.{takes-parity, takes-mux}
 use Rattle.formula.proofs.Emission as E
-use Rattle.formula.proofs.Gates.{parity-pins, mux-pins, parity-tokens, mux-tokens}
+use Rattle.formula.proofs.Gates.{parity-tokens, mux-tokens}
 use borrow.Author.Needs.{needs}
 use Rattle.formula.proofs.gate_clauses.Statement.{statement}
 use Rattle.formula.proofs.gate_clauses.Tie as tie
@@ -13,13 +14,13 @@ parity-has : (c : tie.After-known-told2) → c .before .before .before .before .
 parity-has c =
     let args = c .before .before .before .before .args in
     let pre = c .before .before .before .before .pre in
-    parity-pins (args .gate .count) (c .before .kind2 .given .1) (pre .3)
+    takes-parity (args .gate .count) (c .before .kind2 .given .1) (pre .3)
 
 mux-has : (c : tie.After-enum-told) → c .before .before .before .args .gate .count ≡ 3
 mux-has c =
     let args = c .before .before .before .args in
     let pre = c .before .before .before .pre in
-    mux-pins (args .gate .count) (c .enum-told .given .1) (pre .3)
+    takes-mux (args .gate .count) (c .enum-told .given .1) (pre .3)
 
 enum-known-kind : tie.Need-enum-known-kind
 enum-known-kind c = search needs

@@ -4,7 +4,7 @@ use mathlib.Core.Path.{sym, _∙_}
 use Prim.Native.Nat.{_-_}
 use native.Mathlib.Omega.{arith}
 use borrow.Author.Needs.{needs}
-use Rattle.formula.specs.Emission.{pinsFrom}
+use Rattle.netlist.specs.File.{pinsFrom}
 use Rattle.formula.specs.Late.{pinLate, sureAt, topIn}
 use Rattle.formula.proofs.Late as L
 use Rattle.formula.proofs.Emission as E

@@ -3,13 +3,12 @@ use mathlib.Core.Path.{refl}
 use Prim.Native.Nat.{_+_, _-_, _≤_}
 use native.Mathlib.Omega.{arith}
 use borrow.Author.Needs.{needs}
-use Rattle.netlist.specs.File.{pinAt, driverAt, delayAt}
-use Rattle.formula.specs.Emission.{pinsFrom}
+use Rattle.netlist.specs.File.{pinAt, driverAt, delayAt, pinsFrom}
 use Rattle.formula.specs.Late.{partRun, pinLate}
 use Rattle.formula.proofs.Late as L
 use Rattle.formula.proofs.Emission.{Emitting}
 use Rattle.formula.proofs.Emission as E
-use Rattle.formula.proofs.Pins as P
+use Rattle.netlist.proofs.Pins as P
 use Rattle.formula.proofs.late_literals.Statement.{statement}
 use Rattle.formula.proofs.late_literals.Tie as tie
 
@@ -98,7 +97,7 @@ returns : tie.Need-returns Inv-loop μ-loop
 returns c =
     let pre = c .before .before .before .before .before .pre in
     let few = pre .2 .few in
-    E.emits-as 256 (E.emitting-ends (c .before .loop .inv .1) (P.pins-done _ _ _ _ _ (c .loop-test .left))) refl
+    E.emits-as 256 (E.emitting-ends (c .before .loop .inv .1) (P.pins-none _ _ _ _ _ (c .loop-test .left))) refl
     (omega arith)
 
 pub late-literals-spec : {M : Type 1} → statement M

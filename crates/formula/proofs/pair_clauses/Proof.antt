@@ -1,6 +1,5 @@
 -- `formula::pair_clauses` meets its contract: the kind decides whether control clauses follow. Assumes nothing.
 use mathlib.Core.Path.{refl}
-use Prim.Native.Nat.{_-_}
 use native.Mathlib.Omega.{arith}
 use borrow.Author.Needs.{needs}
 use Rattle.formula.proofs.Emission as E

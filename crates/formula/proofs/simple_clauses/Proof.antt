@@ -1,7 +1,7 @@
 -- `formula::simple_clauses` meets its contract: the runs of the callees make the gate's tokens. Assumes nothing.
 use native.Mathlib.Omega.{arith}
+use Rattle.netlist.specs.File.{pinsFrom}
 use Rattle.formula.proofs.Emission as E
-use Rattle.formula.specs.Emission.{pinsFrom}
 use Rattle.formula.proofs.Gates.{simple-tokens}
 use borrow.Author.Needs.{needs}
 use Rattle.formula.proofs.simple_clauses.Statement.{statement}

@@ -2,9 +2,9 @@
 -- to f have no pin that f drives. Assumes nothing.
 use Prim.Native.Nat.{_+_, _-_, _≤_, max}
 use native.Mathlib.Omega.{arith}
+use Rattle.netlist.proofs.GateRead.{gate-fields, gate-within}
 use Rattle.pairs.specs.Table.{pairsIn, Most, Asks}
 use Rattle.pairs.proofs.Largest.{asks-starts, asks-more, asks-ends}
-use Rattle.pairs.proofs.Topping.{gate-fields, pin-within}
 use Rattle.pairs.proofs.asks.Statement.{statement}
 use Rattle.pairs.proofs.asks.Tie as tie
 
@@ -41,7 +41,7 @@ gate-asks-requires c κs =
     let start = c .before .before .before .before .before .before .before .before .before in (
       start .pre .0,
       start .pre .1,
-      pin-within _ (start .pre .1) (c .before .before .if1 .taken) (c .before .gate-at .ensures .0),
+      gate-within _ (start .pre .1) (c .before .before .if1 .taken) (c .before .gate-at .ensures .0),
       omega (arith, start .pre .1 .inputs-few, start .pre .1 .gates-few),
       start .pre .4,
     )

@@ -2,14 +2,8 @@
 -- Assumes nothing.
 use Prim.Native.Nat.{_-_, _≤_}
 use native.Mathlib.Omega.{arith}
-use Rattle.pairs.proofs.Topping.{
-  Readying,
-  readying-starts,
-  readying-more,
-  readying-ends,
-  pin-within,
-  driver-below,
-}
+use Rattle.netlist.proofs.GateRead.{gate-within, driver-below}
+use Rattle.pairs.proofs.Topping.{Readying, readying-starts, readying-more, readying-ends}
 use Rattle.pairs.proofs.last_ready.Statement.{statement}
 use Rattle.pairs.proofs.last_ready.Tie as tie
 
@@ -29,19 +23,19 @@ add-pin : tie.Need-add-pin Inv-loop μ-loop
 add-pin c =
     let gate = c .before .before in
     let start = gate .before .before .before in
-    omega (arith, pin-within _ (start .pre .0) (start .pre .1) (gate .gate-at .ensures .0))
+    omega (arith, gate-within _ (start .pre .0) (start .pre .1) (gate .gate-at .ensures .0))
 
 driver-at-requires : tie.Need-driver-at-requires Inv-loop μ-loop
 driver-at-requires c κs =
     let gate = c .before .before in
     let start = gate .before .before .before in
-    (start .pre .0 .tables, omega (arith, pin-within _ (start .pre .0) (start .pre .1) (gate .gate-at .ensures .0)))
+    (start .pre .0 .tables, omega (arith, gate-within _ (start .pre .0) (start .pre .1) (gate .gate-at .ensures .0)))
 
 delay-at-requires : tie.Need-delay-at-requires Inv-loop μ-loop
 delay-at-requires c κs =
     let gate = c .before .before .before in
     let start = gate .before .before .before in
-    (start .pre .0 .tables, omega (arith, pin-within _ (start .pre .0) (start .pre .1) (gate .gate-at .ensures .0)))
+    (start .pre .0 .tables, omega (arith, gate-within _ (start .pre .0) (start .pre .1) (gate .gate-at .ensures .0)))
 
 mul-widen : tie.Need-mul-widen Inv-loop μ-loop
 mul-widen c = omega arith
@@ -51,8 +45,8 @@ shared-slice-read-widen c =
     let gate = c .before .before .before .before .before in
     let start = gate .before .before .before in
     let below =
-    driver-below _ (c .before .before .before .before .loop .k) _ (start .pre .0) (start .pre .1)
-    (gate .gate-at .ensures .0)
+    driver-below _ (start .pre .0) (start .pre .1) (gate .gate-at .ensures .0)
+    (c .before .before .before .before .loop .k) _
     (c .before .before .before .loop-test .taken) (c .before .before .driver-at .ensures .0)
     in
     omega (arith, start .pre .2)

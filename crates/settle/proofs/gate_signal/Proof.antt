@@ -1,6 +1,7 @@
 -- `settle::gate_signal` meets its contract: each arm calls the function of its kind, and a kind takes its own number of
 -- pins. Assumes nothing.
 use borrow.Author.Needs.{needs}
+use Rattle.netlist.proofs.Valid.{takes-parity, takes-mux}
 use Rattle.settle.proofs.Pins as L
 use Rattle.settle.proofs.gate_signal.Statement.{statement}
 use Rattle.settle.proofs.gate_signal.Tie as tie
@@ -17,7 +18,7 @@ enum-known-kind-2 c = search needs
 parity-signal-requires : tie.Need-parity-signal-requires
 parity-signal-requires c κs =
     let s = c .before .before .before .before .before .before in
-    L.wired-as (L.parity-count (c .before .kind2 .given .1) (s .pre .1)) (s .pre .0)
+    L.wired-as (takes-parity _ (c .before .kind2 .given .1) (s .pre .1)) (s .pre .0)
 
 enum-told : tie.Need-enum-told
 enum-told c = search needs
@@ -25,7 +26,7 @@ enum-told c = search needs
 mux-signal-requires : tie.Need-mux-signal-requires
 mux-signal-requires c κs =
     let s = c .before .before .before .before .before in
-    L.wired-as (L.mux-count (c .enum-told .given .1) (s .pre .1)) (s .pre .0)
+    L.wired-as (takes-mux _ (c .enum-told .given .1) (s .pre .1)) (s .pre .0)
 
 returns : tie.Need-returns
 returns c = rw (c .before .before .kind .given .1) (c .simple-signal .ensures)
@@ -33,13 +34,13 @@ returns c = rw (c .before .before .kind .given .1) (c .simple-signal .ensures)
 returns-2 : tie.Need-returns-2
 returns-2 c =
     let s = c .before .before .before .before .before .before .before in
-    rw (L.parity-count (c .before .before .kind2 .given .1) (s .pre .1), c .before .before .kind2 .given .1)
+    rw (takes-parity _ (c .before .before .kind2 .given .1) (s .pre .1), c .before .before .kind2 .given .1)
     (c .parity-signal .ensures)
 
 returns-3 : tie.Need-returns-3
 returns-3 c =
     let s = c .before .before .before .before .before .before in
-    rw (L.mux-count (c .before .enum-told .given .1) (s .pre .1), c .before .enum-told .given .1)
+    rw (takes-mux _ (c .before .enum-told .given .1) (s .pre .1), c .before .enum-told .given .1)
     (c .mux-signal .ensures)
 
 pub gate-signal-spec : {M : Type 1} → statement M

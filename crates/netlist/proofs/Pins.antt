@@ -1,13 +1,11 @@
--- The pins of a gate, one after the other by their numbers. Assumes nothing.
-use mathlib.Core.Path.{_≡_, refl, ap, ap₂, _∙_}
+-- The pins from a number on, one after the other. Laws: pins-all, pins-next, pins-none. Assumes nothing.
+use mathlib.Core.Path.{_≡_, ap, ap₂, _∙_}
 use mathlib.Core.List.{List, [], _∷_, map}
 use Prim.Native.Nat.{ℕ, suc, _+_, _-_, _≤_, _<_}
 use native.Mathlib.Omega.{arith}
 use Rattle.basics.specs.Lists.{upFrom}
 use Rattle.netlist.specs.declared.Shape.{Shape}
-use Rattle.netlist.specs.Netlist.{Pin}
-use Rattle.netlist.specs.File.{pinAt}
-use Rattle.formula.specs.Emission.{pinsFrom}
+use Rattle.netlist.specs.File.{pinAt, pinsFrom}
 
 module _ (file : List ℕ) (shape : Shape) (first count : ℕ) where
   -- before the first, all are left
@@ -29,8 +27,8 @@ module _ (file : List ℕ) (shape : Shape) (first count : ℕ) where
       ∙ ap (λ (n : ℕ). pinAt file shape (first + i) ∷ map (pinAt file shape) (upFrom n (count - (i + 1)))) f
 
   -- after the last, none is left
-  pub pins-done : (i : ℕ) → count ≤ i → pinsFrom file shape (first + i) (count - i) ≡ []
+  pub pins-none : (i : ℕ) → count ≤ i → pinsFrom file shape (first + i) (count - i) ≡ []
   unfolding pinsFrom
-  pins-done i h =
+  pins-none i h =
       let e : count - i ≡ 0 = omega arith in
       ap (λ (n : ℕ). map (pinAt file shape) (upFrom (first + i) n)) e
