@@ -10,19 +10,9 @@ import random
 import struct
 import sys
 
+from document import clauses_in
+
 LEAST = -(2**31)
-
-
-def clauses_of(numbers):
-    """The clauses of a list; numbers after the last 0 are no clause."""
-    clauses, clause = [], []
-    for number in numbers:
-        if number == 0:
-            clauses.append(clause)
-            clause = []
-        else:
-            clause.append(number)
-    return clauses
 
 
 def follows(stored, clause):
@@ -64,7 +54,7 @@ def answer(variables, formula, refutation, room):
         return 12, beyond(variables, refutation)
     if not refutation or refutation[-1] != 0:
         return 12, len(refutation)
-    steps = clauses_of(refutation)
+    steps = clauses_in(refutation)
     for index, step in enumerate(steps[:-1]):
         if not step:
             return 13, index
@@ -72,7 +62,7 @@ def answer(variables, formula, refutation, room):
         return 13, len(steps)
     if room < variables + 1:
         return 9, variables + 1
-    stored = clauses_of(formula)
+    stored = clauses_in(formula)
     for index, step in enumerate(steps):
         if not follows(stored, step):
             return 14, index
