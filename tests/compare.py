@@ -4,7 +4,8 @@
     python3 tests/compare.py --twin             the C twin in its place, to try the tests themselves
     --seed NUMBER --cases NUMBER                which cases, and at least how many
     --workers NUMBER                            how many run at once; as many as there are cores if not given
-    --valgrind                                  the host under valgrind, each slice in a block of just its length
+    --valgrind                                  the host under valgrind, each slice in a block of just its length; only
+                                                where the machine is x86-64
 
 A C host (tests/host.c) makes the calls of tests/cases.py. What each must give is worked out by tests/document.py; a
 share of the cases also by the other methods of tests/methods.py; two SAT solvers serve as peers. The last line says how
@@ -112,6 +113,8 @@ def host_command(options, directory):
     """Build the host and say how to run it."""
     program = tools.build_host(directory, None if options.twin else os.path.abspath(options.archive))
     if options.valgrind:
+        if not tools.is_native():
+            sys.exit("compare: valgrind can run the host on an x86-64 machine alone")
         tools.need("valgrind")
         return ["valgrind", "-q", "--error-exitcode=9", program, "tight"]
     return tools.runner() + [program]

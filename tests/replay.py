@@ -7,17 +7,22 @@ A page marks what is replayed by its fences:
     ```c first.c        a fence with a second word is a file: it is written to the copy under that name
 
 A command line that ends in a backslash goes on in the next. Every other fence is only for reading. Each page gets a
-copy of its own: the whole tree, with what has been built in target/ linked into it. Assumes bash.
+copy of its own: the whole tree, with what has been built in target/ linked into it. Where the machine is not x86-64,
+`gcc` at a command's start is the cross compiler and a program in target/ is run under qemu, as README.md says.
+Assumes bash.
 """
 
 import difflib
 import os
 import pathlib
 import re
+import shlex
 import shutil
 import subprocess
 import tempfile
 from collections import namedtuple
+
+import tools
 
 ROOT = pathlib.Path(__file__).resolve().parents[1]
 NOT_COPIED = (".git", "target", "__pycache__")
@@ -88,6 +93,18 @@ def fresh_copy(folder):
     return copy
 
 
+def for_this_machine(command):
+    """A page's command, as it is to be written on this machine."""
+    first, space, rest = command.partition(" ")
+    if tools.is_native():
+        return command
+    if first == "gcc":
+        return shlex.join(tools.compiler()) + space + rest
+    if first.startswith("target/"):
+        return shlex.join(tools.runner()) + " " + command
+    return command
+
+
 def printed_by(command, folder):
     """All that a command prints."""
     settings = dict(os.environ, LC_ALL="C.UTF-8", PYTHONDONTWRITEBYTECODE="1")
@@ -106,7 +123,7 @@ def replay(text):
                 (copy / step.name).write_text("".join(line + "\n" for line in step.lines))
                 continue
             count += 1
-            printed = printed_by(step.text, copy)
+            printed = printed_by(for_this_machine(step.text), copy)
             if printed != "".join(line + "\n" for line in step.prints):
                 differences.append(Difference(step, printed))
     return count, differences

@@ -1,7 +1,9 @@
 """Finds the commands that the tests run, installs what is missing by apt-get, and builds the C host.
 
-The library is x86-64 code. On an x86-64 machine the host is built by gcc and run as it is; on an aarch64 machine it is
-built by the cross compiler and run under qemu. Assumes Debian, and the right to install, where something is missing.
+The library and the programs in target/bin are x86-64 code. On an x86-64 machine the host is built by gcc, and all are
+run as they are. On an aarch64 machine the host is built by the cross compiler, and all are run under qemu; the programs
+in target/bin load a C library, and there it is Debian's for the cross compiler. Assumes Debian, and the right to
+install, where something is missing.
 """
 
 import os
@@ -12,6 +14,10 @@ import sys
 
 ROOT = os.path.dirname(os.path.dirname(os.path.abspath(__file__)))
 
+# Where Debian has the C library of x86-64 for other machines, and the loader in it.
+CROSS_LIBRARY = "/usr/x86_64-linux-gnu/lib"
+LOADER = CROSS_LIBRARY + "/ld-linux-x86-64.so.2"
+
 PACKAGES = {
     "gcc": "gcc libc6-dev",
     "cadical": "cadical",
@@ -19,6 +25,7 @@ PACKAGES = {
     "valgrind": "valgrind",
     "x86_64-linux-gnu-gcc": "gcc-x86-64-linux-gnu libc6-dev-amd64-cross",
     "qemu-x86_64": "qemu-user",
+    LOADER: "libc6-amd64-cross",
 }
 
 
@@ -51,11 +58,19 @@ def compiler():
 
 
 def runner():
-    """What stands before the name of an x86-64 program to run it here."""
+    """What stands before the name of a program that compiler() made to run it here."""
     if is_native():
         return []
     need("qemu-x86_64")
     return ["qemu-x86_64"]
+
+
+def loader():
+    """What stands before the name of a program in target/bin to run it here."""
+    if is_native():
+        return []
+    need(LOADER)
+    return [*runner(), LOADER, "--library-path", CROSS_LIBRARY]
 
 
 def build_host(directory, archive):

@@ -12,8 +12,8 @@ from collections import namedtuple
 
 from circuit import Mistake
 
-# This is tests/tools.py: what stands before the name of an x86-64 program to run it on this machine.
-from tools import runner
+# This is tests/tools.py: what stands before the name of a program in target/bin to run it on this machine.
+from tools import loader
 
 BUILT = pathlib.Path(__file__).resolve().parents[1] / "target" / "bin"
 NAMES = ("show_times", "show_formula", "check_refutation", "judge_delay")
@@ -36,7 +36,7 @@ def run(name, data):
     """What a program prints when it reads these bytes."""
     if name in missing():
         raise Mistake(f"the program {name} is not built yet; build it by: rt check {name}")
-    ended = subprocess.run(runner() + [path_of(name)], input=data, stdout=subprocess.PIPE, check=False)
+    ended = subprocess.run(loader() + [path_of(name)], input=data, stdout=subprocess.PIPE, check=False)
     if ended.returncode:
         raise Mistake(f"the program {name} broke off with status {ended.returncode}")
     return read_reply(ended.stdout.decode())
