@@ -47,6 +47,7 @@ def counter(folder):
                 capture_output=True, text=True, check=True)
             return int(re.search(r"Collected : (\d+)", run.stderr).group(1)), run.stdout
         return count
+    tools.need("gcc")
     plugin = os.path.join(folder, "icount.so")
     subprocess.run(["gcc", "-O2", "-shared", "-fPIC", "-o", plugin, os.path.join(HERE, "icount.c")], check=True)
 
