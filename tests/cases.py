@@ -135,7 +135,9 @@ def shortened(dice, clauses, steps):
 
 
 def damage_steps(dice, variables, steps):
-    """A refutation with steps dropped, moved or changed, or with a literal or a clause too many."""
+    """A refutation with steps dropped, moved or changed, or with a literal or a clause too many; a clause that holds a
+    literal and its opposite follows from anything, so it stands near the front.
+    """
     steps = [list(step) for step in steps]
     place = dice.randrange(len(steps))
     style = dice.randrange(10)
@@ -153,6 +155,9 @@ def damage_steps(dice, variables, steps):
         steps[place][dice.randrange(len(steps[place]))] *= -1
     elif style == 5 and steps[place]:
         steps[place].append(dice.choice((1, -1)) * steps[place][0])
+    elif style == 6 and variables:
+        clause = random_clause(dice, variables, dice.randint(1, 3))
+        steps.insert(dice.randrange(min(2, len(steps))), [*clause, -clause[0]])
     elif variables:
         steps.insert(place, random_clause(dice, variables, dice.randint(1, 3)))
     return steps
