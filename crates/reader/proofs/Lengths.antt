@@ -14,7 +14,8 @@ use borrow.Author.Tests.{eq-eqb, ne-eqb}
 use Rattle.clauses.specs.Codes.{codeOf}
 use Rattle.refute.specs.Reading.{NextZero}
 use Rattle.refute.proofs.Walking.{NoZero, no-zero}
-use Rattle.reader.specs.Reading.{longer, firstLength, lengthAt, startAt, clauseAt, pointAt, PartAt}
+use Rattle.refute.specs.Parts.{pointAt}
+use Rattle.reader.specs.Reading.{longer, firstLength, lengthAt, startAt, clauseAt, PartAt}
 
 -- ---- a list's first clause
 

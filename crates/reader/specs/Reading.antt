@@ -9,6 +9,7 @@ use lib.Dec.{eqb}
 use lib.IntN.{ℤ, pos, negsuc}
 use lib.ListN.{length, take, drop}
 use denote.Ref.{RefT, now}
+use Rattle.refute.specs.Parts.{pointAt}
 
 -- one number more in front of a clause; where there is no clause, there is still none
 abbrev pub longer : ℕ → ℕ
@@ -33,10 +34,6 @@ startAt list at = cond (eqb (lengthAt list at) 0) (length list) at
 -- the part given at a place: the clause with its 0, or "the empty part at the slice's end"
 unfoldable pub clauseAt : List ℤ → ℕ → List ℤ
 clauseAt list at = take (lengthAt list at) (drop (startAt list at) list)
-
--- where the number at a place of a slice lies, by where the slice does: a block, and a byte in it; a number has 4 bytes
-abbrev pub pointAt : ℕ × ℕ → ℕ → ℕ × ℕ
-pointAt start at = (start .0, at * 4 + start .1)
 
 -- what is given at a place of a slice: those numbers, and they are that very part of the slice, no copy
 pub record PartAt (slice : RefT (List ℤ)) (at : ℕ) (part : RefT (List ℤ)) : Type 0 where

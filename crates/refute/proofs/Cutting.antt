@@ -22,6 +22,7 @@ use lib.ListN.{
 }
 use lib.Seq.{drop-drop, take-at, take-append-seam, drop-append-add, getD-append-add, getD-drop}
 use borrow.Author.Tests.{lt-ltb, le-ltb, ltb-true, ltb-false}
+use denote.Ref.{RefT, now}
 use Rattle.basics.specs.Lists.{concatMap}
 use Rattle.clauses.specs.Codes.{codeOf}
 use Rattle.refute.specs.Parts.{
@@ -34,6 +35,7 @@ use Rattle.refute.specs.Parts.{
   spanOf,
   spanned,
   Part,
+  pointAt,
 }
 use Rattle.refute.specs.Reading.{NextZero}
 use Rattle.refute.specs.declared.Span.{Span}
@@ -346,28 +348,26 @@ span-is formula refutation number = go (ltb number (length (parts formula))) ref
         second-span formula refutation number (number - length (parts formula)) e
 
 -- what a span names, as the promise says it
-module _ {formula refutation : List ℤ} {number : ℕ} {span : Span} (s : Spanned formula refutation number span)
-    (e : span ≡ spanOf formula refutation number) where
-  pub part-second : span .second ≡ true →
-      Part formula refutation number (take (span .end - span .start) (drop (span .start) refutation))
-  part-second t =
-      let q : take (span .end - span .start) (drop (span .start) refutation) ≡ spanned formula refutation span =
-      sym
-      (ap
-      (λ (b : Bool).
-      cond b (take (span .end - span .start) (drop (span .start) refutation))
-      (take (span .end - span .start) (drop (span .start) formula)))
-      t) in
-      record { held = q ∙ ap (spanned formula refutation) e; named = q ∙ s .holds }
-
-  pub part-first : span .second ≡ false →
-      Part formula refutation number (take (span .end - span .start) (drop (span .start) formula))
-  part-first t =
-      let q : take (span .end - span .start) (drop (span .start) formula) ≡ spanned formula refutation span =
-      sym
-      (ap
-      (λ (b : Bool).
-      cond b (take (span .end - span .start) (drop (span .start) refutation))
-      (take (span .end - span .start) (drop (span .start) formula)))
-      t) in
-      record { held = q ∙ ap (spanned formula refutation) e; named = q ∙ s .holds }
+module _ {formula refutation part : RefT (List ℤ)} {number : ℕ} {span : Span}
+    (s : Spanned (now formula) (now refutation) number span) (e : span ≡ spanOf (now formula) (now refutation) number)
+  where
+    -- a part of the list that its span names is the numbered one
+    pub part-of : (second : Bool) → span .second ≡ second →
+        now part ≡ take (span .end - span .start) (drop (span .start) (cond second (now refutation) (now formula))) →
+        part .ptr ≡ pointAt (cond second (refutation .ptr) (formula .ptr)) (span .start) →
+        Part formula refutation number part
+    part-of second t holds lies =
+        let q : now part ≡ spanned (now formula) (now refutation) span = holds ∙ chosen second t in
+        record {
+          held = q ∙ ap (spanned (now formula) (now refutation)) e;
+          named = q ∙ s .holds;
+          lies = lies
+              ∙ ap₂ (λ (b : Bool) (at : ℕ). pointAt (cond b (refutation .ptr) (formula .ptr)) at)
+              (sym t ∙ ap (λ (x : Span). x .second) e) (ap (λ (x : Span). x .start) e);
+        }
+      where
+        chosen : (b : Bool) → span .second ≡ b →
+            take (span .end - span .start) (drop (span .start) (cond b (now refutation) (now formula)))
+            ≡ spanned (now formula) (now refutation) span
+        chosen true t = rw t
+        chosen false t = rw t

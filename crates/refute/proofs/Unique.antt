@@ -1,11 +1,13 @@
--- One verdict on each refutation and one answer to each check: two that meet the promise are equal. Neither asks that a
--- verdict can be computed. Assumes nothing.
+-- One verdict on each refutation, one answer to each check and one part for each number: two that meet the promise are
+-- equal. None asks that a verdict can be computed. Assumes nothing.
 use mathlib.Core.Path.{_≡_, refl, sym, ap, _∙_}
 use mathlib.Core.List.{List, [], _∷_, _++_}
 use Prim.Native.Nat.{ℕ, zero, suc}
 use native.Mathlib.Omega.{arith}
 use lib.IntN.{ℤ}
+use denote.Ref.{RefT, now}
 use Rattle.clauses.specs.Clauses.{Literal}
+use Rattle.refute.specs.Parts.{Part}
 use Rattle.refute.specs.Propagation.{Verdict, passes, stops, Judged}
 use Rattle.refute.specs.Passes.{next}
 use Rattle.refute.specs.Reading.{answerOf}
@@ -61,3 +63,8 @@ checks-unique variables formula refutation room p q = answers-unique p q
 pub tested-unique : (variables : ℕ) (formula refutation : List ℤ) (room : ℕ) {a b : Checked} →
     Tested variables formula refutation room a → Tested variables formula refutation room b → a ≡ b
 tested-unique variables formula refutation room p q = answers-unique p q
+
+-- one part for a clause's number: its numbers, and where it lies
+pub clause-unique : {formula refutation : RefT (List ℤ)} {number : ℕ} (p q : RefT (List ℤ)) →
+    Part formula refutation number p → Part formula refutation number q → (now p ≡ now q) × (p .ptr ≡ q .ptr)
+clause-unique p q a b = (a .held ∙ sym (b .held), a .lies ∙ sym (b .lies))

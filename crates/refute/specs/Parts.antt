@@ -2,10 +2,11 @@
 use mathlib.Core.Path.{_≡_}
 use mathlib.Core.Bool.{true, false, cond}
 use mathlib.Core.List.{List, [], _∷_, _++_}
-use Prim.Native.Nat.{ℕ, zero, suc, _-_}
+use Prim.Native.Nat.{ℕ, zero, suc, _+_, _-_, _*_}
 use lib.Dec.{ltb}
 use lib.IntN.{ℤ, pos, negsuc}
 use lib.ListN.{length, getD, take, drop}
+use denote.Ref.{RefT, now}
 use Rattle.basics.specs.Lists.{concatMap}
 use Rattle.refute.specs.declared.Span.{Span}
 use Rattle.refute.specs.declared.Found.{Found}
@@ -51,7 +52,16 @@ spanned formula refutation span =
     cond (span .second) (take (span .end - span .start) (drop (span .start) refutation))
     (take (span .end - span .start) (drop (span .start) formula))
 
--- what is handed back for a number: the part that its span names, which is the numbered one of both lists' parts
-pub record Part (formula refutation : List ℤ) (number : ℕ) (part : List ℤ) : Type 0 where
-  pub held : part ≡ spanned formula refutation (spanOf formula refutation number)
-  pub named : part ≡ getD (parts formula ++ parts refutation) number []
+-- where the number at a place of a slice lies, by where the slice does: a block, and a byte in it; a number has 4 bytes
+abbrev pub pointAt : ℕ × ℕ → ℕ → ℕ × ℕ
+pointAt start at = (start .0, at * 4 + start .1)
+
+-- what is handed back for a number: the part that its span names, which is the numbered one of both lists' parts; and
+-- it lies there, in "whichever list holds it, formula or refutation, no copy made"
+pub record Part (formula refutation : RefT (List ℤ)) (number : ℕ) (part : RefT (List ℤ)) : Type 0 where
+  pub held : now part ≡ spanned (now formula) (now refutation) (spanOf (now formula) (now refutation) number)
+  pub named : now part ≡ getD (parts (now formula) ++ parts (now refutation)) number []
+  pub lies : part .ptr ≡
+      pointAt
+      (cond (spanOf (now formula) (now refutation) number .second) (refutation .ptr) (formula .ptr))
+      (spanOf (now formula) (now refutation) number .start)

@@ -398,7 +398,7 @@ pub fn span_of(formula: &[i32], refutation: &[i32], number: usize) -> Span
 // The clause with a number, with its 0, as a part of whichever list holds it; no copy is made. A number that names no
 // clause gives the empty part at the refutation's end.
 pub fn clause<'a>(formula: &'a [i32], refutation: &'a [i32], number: usize) -> &'a [i32]
-    ensures { λ r. ⌜ Part (now (formula .entry)) (now (refutation .entry)) number (now r) ⌝ }
+    ensures { λ r. ⌜ Part (formula .entry) (refutation .entry) number r ⌝ }
 {
     let span = span_of(formula, refutation, number);
     let start = span.start;

@@ -1,4 +1,6 @@
 -- `refute::clause` meets its contract: the span lies in its list, and holds the numbered part. Assumes nothing.
+use mathlib.Core.Path.{refl}
+use mathlib.Core.Bool.{true, false}
 use native.Mathlib.Omega.{arith}
 use Rattle.refute.proofs.Cutting as C
 use borrow.Author.Needs.{needs}
@@ -27,7 +29,8 @@ part-result-end : tie.Need-part-result-end
 part-result-end c = omega (arith, span (c .before) .rises, span (c .before) .second-fits (c .if1 .taken))
 
 returns : tie.Need-returns
-returns c = C.part-second (span (c .before .before)) (c .before .before .span-of .ensures) (c .before .if1 .taken)
+returns c =
+    C.part-of (span (c .before .before)) (c .before .before .span-of .ensures) true (c .before .if1 .taken) refl refl
 
 mul-result-2 : tie.Need-mul-result-2
 mul-result-2 c = omega (arith, span (c .before) .rises, span (c .before) .first-fits (c .if1 .left))
@@ -42,7 +45,8 @@ part-result-end-2 : tie.Need-part-result-end-2
 part-result-end-2 c = omega (arith, span (c .before) .rises, span (c .before) .first-fits (c .if1 .left))
 
 returns-2 : tie.Need-returns-2
-returns-2 c = C.part-first (span (c .before .before)) (c .before .before .span-of .ensures) (c .before .if1 .left)
+returns-2 c =
+    C.part-of (span (c .before .before)) (c .before .before .span-of .ensures) false (c .before .if1 .left) refl refl
 
 pub clause-spec : {M : Type 1} → statement M
 clause-spec =
