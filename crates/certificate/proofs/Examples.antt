@@ -98,7 +98,7 @@ judgement-exists file delay vector refutation rooms = go (rowsOf file delay vect
         (answerOf
         (verdict (suc (countsFor net (suc delay) .variables)) (clausesOf (numbersFor net (suc delay)))
         (clausesOf refutation)))))
-    go (Fails refusal) e = record { decides = record { checked = Fails refusal; answers = malformed e; is = refl } }
+    go (Fails refusal) e = record { checked = Fails refusal; answers = malformed e; is = refl }
     go Passes e =
         let rest = then-rest (openedRow (openOf file)) (certificateRows net delay vector refutation rooms) e in
         let both = then-rest witness (andThen building test) rest in
@@ -115,20 +115,17 @@ judgement-exists file delay vector refutation rooms = go (rowsOf file delay vect
         (built-says net (suc delay) (rooms .pairs) (rooms .formula) (answer .0) (answer .1) .few)
         in
         record {
-          decides =
-              record {
-                checked =
-                    answerOf
-                    (verdict (suc (countsFor net (suc delay) .variables)) (clausesOf (numbersFor net (suc delay)))
-                    (clausesOf refutation));
-                answers =
-                    judged-answer (suc (countsFor net (suc delay) .variables)) (numbersFor net (suc delay)) refutation e
-                    (formula-within well)
-                    (rows-pass (countsFor net (suc delay) .variables) refutation (rooms .propagation)
-                    (then-rest building test both) .within)
-                    refl;
-                is = refl;
-              };
+          checked =
+              answerOf
+              (verdict (suc (countsFor net (suc delay) .variables)) (clausesOf (numbersFor net (suc delay)))
+              (clausesOf refutation));
+          answers =
+              judged-answer (suc (countsFor net (suc delay) .variables)) (numbersFor net (suc delay)) refutation e
+              (formula-within well)
+              (rows-pass (countsFor net (suc delay) .variables) refutation (rooms .propagation)
+              (then-rest building test both) .within)
+              refl;
+          is = refl;
         }
 
 -- ---- the rows of the table

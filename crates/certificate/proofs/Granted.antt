@@ -36,7 +36,6 @@ use Rattle.certificate.specs.Promise.{
   certificateRows,
   rowsOf,
   judgementOf,
-  Decides,
   Judges,
 }
 use Rattle.certificate.proofs.Accepted.{numbers-accepted}
@@ -61,13 +60,14 @@ checked-passes net delay vector rooms Passes e = refl
 checked-passes net delay vector rooms (Fails refusal) e = let w : _≡_ {A = ℕ} 0 1 = cc in absurd (omega arith)
 
 -- where the answer is acceptance, the rows passed, and so did the refutation
-pub accepted-passes : {rows : Checked} {net : Netlist} {delay : ℕ} {vector : List ℕ} {refutation : List ℤ}
-    {rooms : Rooms} {result : Judgement} → Decides rows net delay vector refutation rooms result →
-    result .answer ≡ Accepted →
-    (rows ≡ Passes) × Verdict-on (clausesOf (numbersFor net (suc delay))) (clausesOf refutation) passes
-accepted-passes {net = net} {delay} {vector} {refutation} {rooms} d e =
+pub accepted-passes : {file : List ℕ} {delay : ℕ} {vector : List ℕ} {refutation : List ℤ} {rooms : Rooms}
+    {result : Judgement} → Judges file delay vector refutation rooms result → result .answer ≡ Accepted →
+    (rowsOf file delay vector refutation rooms ≡ Passes)
+    × Verdict-on (clausesOf (numbersFor (netlistOf file) (suc delay))) (clausesOf refutation) passes
+accepted-passes {file} {delay} {vector} {refutation} {rooms} d e =
     passes-both (d .answers)
-    (checked-passes net delay vector rooms (d .checked) (sym (ap (λ (j : Judgement). j .answer) (d .is)) ∙ e))
+    (checked-passes (netlistOf file) delay vector rooms (d .checked)
+    (sym (ap (λ (j : Judgement). j .answer) (d .is)) ∙ e))
 
 -- of a valid netlist: the rows and the refutation passed, so the delay is the largest settling time
 pub certificate-largest : (net : Netlist) → T (valid net) → (delay : ℕ) (vector : List ℕ) (refutation : List ℤ)
@@ -104,7 +104,7 @@ pub judges-largest : {file : List ℕ} {delay : ℕ} {vector : List ℕ} {refuta
 unfolding rowsOf
 judges-largest {file} {delay} {vector} {refutation} {rooms} d e =
     let rows = certificateRows (netlistOf file) delay vector refutation rooms in
-    let both = accepted-passes (d .decides) e in
+    let both = accepted-passes d e in
     let opened = opened-passes (openOf file) (then-first (openedRow (openOf file)) rows (both .0)) in
     certificate-largest (netlistOf file) (opened-valid file (opened .0) (opened .1)) delay vector refutation rooms
     (then-rest (openedRow (openOf file)) rows (both .0)) (both .1)

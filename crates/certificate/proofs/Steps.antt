@@ -1,7 +1,7 @@
--- The two steps of a certificate call, and how they make the judgement: a refusal of either is the judgement's, since
--- the rows before it passed; where both pass, what they left is what acceptance leaves. Laws: witnessed-passes,
--- witnessed-late, witnessed-refused, delay-small; formed, refutes-refused, refutes-tested; decides-refused,
--- decides-tested, decides-accepted; judges-refused, judges-opened. Assumes nothing.
+-- The steps of a certificate call, and how they make the judgement: a refusal of a step is the judgement's, since the
+-- rows before it passed; where all pass, what they left is what acceptance leaves. Laws: row-passes, row-late,
+-- row-refused, time-small; formed, refutes-refused, refutes-tested; certified-refused, certified-tested;
+-- judges-unopened, judges-refused, judges-accepted. Assumes nothing.
 use mathlib.Core.Path.{_≡_, refl, sym, ap, ap₂, _∙_, subst}
 use mathlib.Core.List.{List}
 use Prim.Native.Nat.{ℕ, suc, _-_, _≤_}
@@ -46,67 +46,37 @@ use Rattle.certificate.specs.Promise.{
   refused,
   accepted,
   judgementOf,
-  Decides,
   Judges,
+  roomsOf,
 }
-use Rattle.certificate.specs.Steps.{Zeroed, Witnessed, Refutes}
+use Rattle.certificate.specs.Steps.{Zeroed, Refutes, Certified}
 use Rattle.certificate.proofs.Numbers.{numbers-well-formed}
-use Rattle.certificate.proofs.Passing.{built-says, witness-passes, settled-says}
+use Rattle.certificate.proofs.Passing.{built-says, settled-says}
 use Rattle.certificate.proofs.Granted.{opened-netlist}
 
--- ---- the vector's part
+-- ---- the vector's row
 
-module _ {net : Netlist} {delay : ℕ} {vector : List ℕ} {valuesRoom timesRoom : ℕ} {answer : Settled}
-    {values times : List ℕ} where
-  witnessed : {row : Checked} → answer ≡ evaluationOf net vector valuesRoom timesRoom .answer →
-      values ≡ evaluationOf net vector valuesRoom timesRoom .values →
-      times ≡ evaluationOf net vector valuesRoom timesRoom .times →
-      length values ≡ valuesRoom → length times ≡ timesRoom → row ≡ witnessRow delay answer →
-      Witnessed net delay vector valuesRoom timesRoom row values times
-  witnessed a v t l m e =
-      record {
-        row-is = e ∙ ap (witnessRow delay) a;
-        values-are = v;
-        times-are = t;
-        values-long = l;
-        times-long = m;
-      }
+-- it settles at the delay
+pub row-passes : {answer : Settled} {time : ℕ} (delay : ℕ) → answer ≡ At time → time ≡ delay →
+    witnessRow delay answer ≡ Passes
+row-passes {time = time} delay e h = ap (witnessRow delay) e ∙ rw (eq-eqb time delay h) refl
 
-  -- it settles at the delay
-  pub witnessed-passes : {time : ℕ} → answer ≡ evaluationOf net vector valuesRoom timesRoom .answer →
-      values ≡ evaluationOf net vector valuesRoom timesRoom .values →
-      times ≡ evaluationOf net vector valuesRoom timesRoom .times →
-      length values ≡ valuesRoom → length times ≡ timesRoom → answer ≡ At time → time ≡ delay →
-      Witnessed net delay vector valuesRoom timesRoom Passes values times
-  witnessed-passes {time} a v t l m e h =
-      witnessed a v t l m (sym (ap (witnessRow delay) e ∙ rw (eq-eqb time delay h) refl))
+-- it settles at another time
+pub row-late : {answer : Settled} {time : ℕ} (delay : ℕ) → answer ≡ At time → (time ≡ delay → ⊥) →
+    witnessRow delay answer ≡ Fails (Witness time)
+row-late {time = time} delay e h = ap (witnessRow delay) e ∙ rw (ne-eqb time delay h) refl
 
-  -- it settles at another time
-  pub witnessed-late : {time : ℕ} → answer ≡ evaluationOf net vector valuesRoom timesRoom .answer →
-      values ≡ evaluationOf net vector valuesRoom timesRoom .values →
-      times ≡ evaluationOf net vector valuesRoom timesRoom .times →
-      length values ≡ valuesRoom → length times ≡ timesRoom → answer ≡ At time → (time ≡ delay → ⊥) →
-      Witnessed net delay vector valuesRoom timesRoom (Fails (Witness time)) values times
-  witnessed-late {time} a v t l m e h =
-      witnessed a v t l m (sym (ap (witnessRow delay) e ∙ rw (ne-eqb time delay h) refl))
+-- it is refused before
+pub row-refused : {answer : Settled} {refusal : Refusal} (delay : ℕ) → answer ≡ Unsettled refusal →
+    witnessRow delay answer ≡ Fails refusal
+row-refused delay e = ap (witnessRow delay) e
 
-  -- it is refused before
-  pub witnessed-refused : {refusal : Refusal} → answer ≡ evaluationOf net vector valuesRoom timesRoom .answer →
-      values ≡ evaluationOf net vector valuesRoom timesRoom .values →
-      times ≡ evaluationOf net vector valuesRoom timesRoom .times →
-      length values ≡ valuesRoom → length times ≡ timesRoom → answer ≡ Unsettled refusal →
-      Witnessed net delay vector valuesRoom timesRoom (Fails refusal) values times
-  witnessed-refused a v t l m e = witnessed a v t l m (sym (ap (witnessRow delay) e))
-
--- a delay at which a vector settles is small
-pub delay-small : {net : Netlist} {delay : ℕ} {vector : List ℕ} {valuesRoom timesRoom : ℕ} {row : Checked}
-    {values times : List ℕ} → T (valid net) → Witnessed net delay vector valuesRoom timesRoom row values times →
-    row ≡ Passes → delay ≤ 447552
-delay-small {net} {delay} {vector} {valuesRoom} {timesRoom} ok w e =
-    let s =
-    settled-says net vector valuesRoom timesRoom delay
-    (witness-passes delay (evaluationOf net vector valuesRoom timesRoom .answer) (sym (w .row-is) ∙ e))
-    in
+-- a time at which a vector settles is small
+pub time-small : (net : Netlist) (vector : List ℕ) (valuesRoom timesRoom : ℕ) {answer : Settled} {time : ℕ} →
+    T (valid net) → answer ≡ evaluationOf net vector valuesRoom timesRoom .answer → answer ≡ At time →
+    time ≤ 447552
+time-small net vector valuesRoom timesRoom {time = time} ok a e =
+    let s = settled-says net vector valuesRoom timesRoom time (sym a ∙ e) in
     let h = circuit-small net ok (bits vector) in
     omega (arith, s .1)
 
@@ -198,10 +168,10 @@ module _ {net : Netlist} {target : ℕ} {refutation : List ℤ} {pairsRoom formu
       rest : Checked
       rest = refutationRows (countsFor net target .variables) refutation propagationRoom
 
--- ---- the judgement of an accepted netlist
+-- ---- the certificate of an accepted netlist
 
 -- slices of the same lengths
-pub same-rooms : {v t p f g v′ t′ p′ f′ g′ : ℕ} → v ≡ v′ → t ≡ t′ → p ≡ p′ → f ≡ f′ → g ≡ g′ →
+same-rooms : {v t p f g v′ t′ p′ f′ g′ : ℕ} → v ≡ v′ → t ≡ t′ → p ≡ p′ → f ≡ f′ → g ≡ g′ →
     _≡_ {A = Rooms} (record { values = v; times = t; pairs = p; formula = f; propagation = g })
     (record { values = v′; times = t′; pairs = p′; formula = f′; propagation = g′ })
 same-rooms a b c d e = cc
@@ -211,86 +181,61 @@ same-judgement : {a a′ : Judged} {v v′ t t′ p p′ g g′ : List ℕ} {f f
     f ≡ f′ → g ≡ g′ → leaving a v t p f g ≡ leaving a′ v′ t′ p′ f′ g′
 same-judgement a v t p f g = cc
 
--- a refusal that zeroed every slice is the promise's
-zeroed-is : {rooms : Rooms} {refusal : Refusal} {result : Judgement} → Zeroed rooms refusal result →
-    result ≡ refused rooms refusal
-zeroed-is z =
-    same-judgement (z .answer-is) (z .values-are) (z .times-are) (z .pairs-are) (z .formula-is) (z .propagation-is)
-
--- a refusal of slices that were written before is one of the slices as they were lent
-pub after-refusal : {rooms rooms′ : Rooms} {refusal : Refusal} {result : Judgement} → Zeroed rooms′ refusal result →
-    rooms′ ≡ rooms → Zeroed rooms refusal result
-after-refusal {refusal = refusal} {result} z e = subst (λ (k : Rooms). Zeroed k refusal result) e z
+-- the rows after the vector's
+abbrev rest : Netlist → ℕ → List ℤ → Rooms → Checked
+rest net target refutation rooms =
+    andThen (builtRow (buildingOf net target (rooms .pairs) (rooms .formula) .answer))
+    (refutationRows (countsFor net target .variables) refutation (rooms .propagation))
 
 module _ {net : Netlist} {delay : ℕ} {vector : List ℕ} {refutation : List ℤ} {rooms : Rooms}
-    {values times : List ℕ} where
-  -- the vector's part refuses
-  pub decides-refused : {refusal : Refusal} {row : Checked} {result : Judgement} →
-      Witnessed net delay vector (rooms .values) (rooms .times) row values times → row ≡ Fails refusal →
-      Zeroed rooms refusal result →
-      Decides (certificateRows net delay vector refutation rooms) net delay vector refutation rooms result
+    {values times pairs : List ℕ} {formula : List ℤ} {propagation : List ℕ} {answer : Settled}
+    (a : answer ≡ evaluationOf net vector (rooms .values) (rooms .times) .answer) where
+  -- the vector's row refuses
+  pub certified-refused : {refusal : Refusal} → witnessRow delay answer ≡ Fails refusal →
+      length values ≡ rooms .values → length times ≡ rooms .times → length pairs ≡ rooms .pairs →
+      length formula ≡ rooms .formula → length propagation ≡ rooms .propagation →
+      Certified net delay vector refutation rooms (Fails refusal) values times pairs formula propagation
   unfolding certificateRows
-  decides-refused {refusal} w e z =
+  certified-refused e v t p f g =
       record {
-        checked = Fails refusal;
-        answers = malformed (ap (λ (c : Checked). andThen c rest) (sym (w .row-is) ∙ e));
-        is = zeroed-is z;
+        answers =
+            malformed
+            (ap (λ (s : Settled). andThen (witnessRow delay s) (rest net (suc delay) refutation rooms)) (sym a)
+            ∙ ap (λ (c : Checked). andThen c (rest net (suc delay) refutation rooms)) e);
+        leaves = λ q. let w : _≡_ {A = ℕ} 0 1 = cc in absurd (omega arith);
+        rooms-are = same-rooms v t p f g;
       }
-    where
-      rest : Checked
-      rest =
-          andThen (builtRow (buildingOf net (suc delay) (rooms .pairs) (rooms .formula) .answer))
-          (refutationRows (countsFor net (suc delay) .variables) refutation (rooms .propagation))
 
-  module _ {row tested : Checked} {target : ℕ} {pairs : List ℕ} {formula : List ℤ} {propagation : List ℕ}
-      (w : Witnessed net delay vector (rooms .values) (rooms .times) row values times) (passes : row ≡ Passes)
-      (next : target ≡ suc delay)
-      (t : Refutes net target refutation (rooms .pairs) (rooms .formula) (rooms .propagation) tested pairs formula
-      propagation) where
-    decides : {result : Judgement} → result ≡ judgementOf net delay vector rooms tested →
-        Decides (certificateRows net delay vector refutation rooms) net delay vector refutation rooms result
-    unfolding certificateRows
-    decides r =
-        record {
-          checked = tested;
-          answers =
-              subst
-              (λ (rows : Checked).
-              Answers rows (clausesOf (numbersFor net (suc delay))) (clausesOf refutation) tested)
-              (sym (ap (λ (c : Checked). andThen c rest) (sym (w .row-is) ∙ passes)))
-              (subst
-              (λ (n : ℕ).
-              Answers
-              (andThen (builtRow (buildingOf net n (rooms .pairs) (rooms .formula) .answer))
-              (refutationRows (countsFor net n .variables) refutation (rooms .propagation)))
-              (clausesOf (numbersFor net n)) (clausesOf refutation) tested)
-              next (t .answers));
-          is = r;
-        }
-      where
-        rest : Checked
-        rest =
-            andThen (builtRow (buildingOf net (suc delay) (rooms .pairs) (rooms .formula) .answer))
-            (refutationRows (countsFor net (suc delay) .variables) refutation (rooms .propagation))
-
-    -- the refutation's part refuses
-    pub decides-tested : {refusal : Refusal} {result : Judgement} → tested ≡ Fails refusal →
-        Zeroed rooms refusal result →
-        Decides (certificateRows net delay vector refutation rooms) net delay vector refutation rooms result
-    decides-tested e z = decides (zeroed-is z ∙ sym (ap (judgementOf net delay vector rooms) e))
-
-    -- both parts pass
-    pub decides-accepted : tested ≡ Passes →
-        Decides (certificateRows net delay vector refutation rooms) net delay vector refutation rooms
-        (leaving Accepted values times pairs formula propagation)
-    unfolding accepted
-    decides-accepted e =
-        decides
-        (same-judgement refl (w .values-are) (w .times-are)
-        (t .pairs-are ∙ ap (λ (n : ℕ). buildingOf net n (rooms .pairs) (rooms .formula) .pairs) next)
-        (t .formula-is ∙ ap (λ (n : ℕ). buildingOf net n (rooms .pairs) (rooms .formula) .formula) next)
-        (t .propagation-is e)
-        ∙ sym (ap (judgementOf net delay vector rooms) e))
+  -- it passes, and the refutation is tested
+  pub certified-tested : {tested : Checked} {target : ℕ} → witnessRow delay answer ≡ Passes →
+      values ≡ evaluationOf net vector (rooms .values) (rooms .times) .values →
+      times ≡ evaluationOf net vector (rooms .values) (rooms .times) .times →
+      length values ≡ rooms .values → length times ≡ rooms .times → target ≡ suc delay →
+      Refutes net target refutation (rooms .pairs) (rooms .formula) (rooms .propagation) tested pairs formula
+      propagation →
+      Certified net delay vector refutation rooms tested values times pairs formula propagation
+  unfolding certificateRows accepted
+  certified-tested {tested} e v t l m next r =
+      record {
+        answers =
+            subst
+            (λ (rows : Checked).
+            Answers rows (clausesOf (numbersFor net (suc delay))) (clausesOf refutation) tested)
+            (sym
+            (ap (λ (s : Settled). andThen (witnessRow delay s) (rest net (suc delay) refutation rooms)) (sym a)
+            ∙ ap (λ (c : Checked). andThen c (rest net (suc delay) refutation rooms)) e))
+            (subst
+            (λ (n : ℕ).
+            Answers (rest net n refutation rooms) (clausesOf (numbersFor net n)) (clausesOf refutation) tested)
+            next (r .answers));
+        leaves =
+            λ q.
+            same-judgement refl v t
+            (r .pairs-are ∙ ap (λ (n : ℕ). buildingOf net n (rooms .pairs) (rooms .formula) .pairs) next)
+            (r .formula-is ∙ ap (λ (n : ℕ). buildingOf net n (rooms .pairs) (rooms .formula) .formula) next)
+            (r .propagation-is q);
+        rooms-are = same-rooms l m (r .pairs-long) (r .formula-long) (r .propagation-long);
+      }
 
 -- ---- of any bytes
 
@@ -305,43 +250,67 @@ opened-rows file delay vector refutation rooms opened o =
     (λ (k : Opened). andThen (openedRow k) (certificateRows (netlistOf file) delay vector refutation rooms))
     (sym o)
 
-module _ {file : List ℕ} {delay : ℕ} {vector : List ℕ} {refutation : List ℤ} {rooms : Rooms} {result : Judgement} where
-  -- the file is refused
-  pub judges-refused : {opened : Opened} {refusal : Refusal} → opened ≡ openOf file → opened ≡ Untaken refusal →
-      Zeroed rooms refusal result → Judges file delay vector refutation rooms result
-  judges-refused {opened} {refusal} o e z =
-      record {
-        decides =
-            record {
-              checked = Fails refusal;
-              answers =
-                  malformed
-                  (opened-rows file delay vector refutation rooms opened o
-                  ∙ ap (λ (k : Opened). andThen (openedRow k) rest) e);
-              is = zeroed-is z;
-            };
-      }
-    where
-      rest : Checked
-      rest = certificateRows (netlistOf file) delay vector refutation rooms
+-- a refusal that zeroed every slice is the promise's
+zeroed-is : {rooms : Rooms} {refusal : Refusal} {result : Judgement} → Zeroed rooms refusal result →
+    result ≡ refused rooms refusal
+zeroed-is z =
+    same-judgement (z .answer-is) (z .values-are) (z .times-are) (z .pairs-are) (z .formula-is) (z .propagation-is)
 
-  -- the file is accepted
-  pub judges-opened : {opened : Opened} {shape : Shape} → opened ≡ openOf file → opened ≡ Taken shape →
-      Decides (certificateRows (netlistAt file shape) delay vector refutation rooms) (netlistAt file shape) delay vector
-      refutation rooms result →
-      Judges file delay vector refutation rooms result
-  judges-opened {opened} {shape} o e d =
+module _ {file : List ℕ} {delay : ℕ} {vector : List ℕ} {refutation : List ℤ} {rooms : Rooms} where
+  -- the file is refused
+  pub judges-unopened : {opened : Opened} {refusal : Refusal} {result : Judgement} → opened ≡ openOf file →
+      opened ≡ Untaken refusal → Zeroed rooms refusal result → Judges file delay vector refutation rooms result
+  judges-unopened {opened} {refusal} o e z =
       record {
-        decides =
-            subst (λ (rows : Checked). Decides rows (netlistOf file) delay vector refutation rooms result)
-            (sym
+        checked = Fails refusal;
+        answers =
+            malformed
             (opened-rows file delay vector refutation rooms opened o
-            ∙ ap (λ (k : Opened). andThen (openedRow k) rest) e))
-            (subst
-            (λ (net : Netlist).
-            Decides (certificateRows net delay vector refutation rooms) net delay vector refutation rooms result)
-            (opened-netlist file shape (sym o ∙ e)) d);
+            ∙ ap
+            (λ (k : Opened).
+            andThen (openedRow k) (certificateRows (netlistOf file) delay vector refutation rooms)) e);
+        is = zeroed-is z;
       }
-    where
-      rest : Checked
-      rest = certificateRows (netlistOf file) delay vector refutation rooms
+
+  -- the file is accepted, and its certificate was looked at
+  module _ {opened : Opened} {shape : Shape} {checked : Checked} {values times pairs : List ℕ} {formula : List ℤ}
+      {propagation : List ℕ} (o : opened ≡ openOf file) (e : opened ≡ Taken shape)
+      (c : Certified (netlistAt file shape) delay vector refutation rooms checked values times pairs formula
+      propagation) where
+    judges : {result : Judgement} → result ≡ judgementOf (netlistAt file shape) delay vector rooms checked →
+        Judges file delay vector refutation rooms result
+    judges r =
+        let own = opened-netlist file shape (sym o ∙ e) in
+        record {
+          checked = checked;
+          answers =
+              subst
+              (λ (rows : Checked).
+              Answers rows (clausesOf (numbersFor (netlistOf file) (suc delay))) (clausesOf refutation) checked)
+              (sym
+              (opened-rows file delay vector refutation rooms opened o
+              ∙ ap
+              (λ (k : Opened).
+              andThen (openedRow k) (certificateRows (netlistOf file) delay vector refutation rooms)) e))
+              (subst
+              (λ (net : Netlist).
+              Answers (certificateRows net delay vector refutation rooms) (clausesOf (numbersFor net (suc delay)))
+              (clausesOf refutation) checked)
+              own (c .answers));
+          is = r ∙ ap (λ (net : Netlist). judgementOf net delay vector rooms checked) own;
+        }
+
+    -- it is refused
+    pub judges-refused : {refusal : Refusal} {result : Judgement} → checked ≡ Fails refusal →
+        Zeroed (roomsOf values times pairs formula propagation) refusal result →
+        Judges file delay vector refutation rooms result
+    judges-refused {refusal} q z =
+        judges
+        (zeroed-is z
+        ∙ ap (λ (k : Rooms). refused k refusal) (c .rooms-are)
+        ∙ sym (ap (judgementOf (netlistAt file shape) delay vector rooms) q))
+
+    -- it is accepted
+    pub judges-accepted : checked ≡ Passes →
+        Judges file delay vector refutation rooms (leaving Accepted values times pairs formula propagation)
+    judges-accepted q = judges (c .leaves q ∙ sym (ap (judgementOf (netlistAt file shape) delay vector rooms) q))

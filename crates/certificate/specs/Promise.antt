@@ -130,16 +130,12 @@ abbrev pub judgementOf : Netlist → ℕ → List ℕ → Rooms → Checked → 
 judgementOf net delay vector rooms Passes = accepted net delay vector rooms
 judgementOf net delay vector rooms (Fails refusal) = refused rooms refusal
 
--- where the rows before 14 say `rows`: their refusal; or else 14 STEP, or acceptance, by the order-free verdict on the
--- refutation against the very numbers of the formula for D+1
-pub record Decides (rows : Checked) (net : Netlist) (delay : ℕ) (vector : List ℕ) (refutation : List ℤ) (rooms : Rooms)
-    (result : Judgement) : Type 0 where
-  pub checked : Checked
-  pub answers : Answers rows (clausesOf (numbersFor net (suc delay))) (clausesOf refutation) checked
-  pub is : result ≡ judgementOf net delay vector rooms checked
-
--- of any bytes, any delay, any vector and any refutation
+-- of any bytes, any delay, any vector and any refutation: the first row before 14 that refuses; or else 14 STEP, or
+-- acceptance, by the order-free verdict on the refutation against the very numbers of the formula for D+1
 pub record Judges (file : List ℕ) (delay : ℕ) (vector : List ℕ) (refutation : List ℤ) (rooms : Rooms)
     (result : Judgement) : Type 0 where
-  pub decides :
-      Decides (rowsOf file delay vector refutation rooms) (netlistOf file) delay vector refutation rooms result
+  pub checked : Checked
+  pub answers :
+      Answers (rowsOf file delay vector refutation rooms) (clausesOf (numbersFor (netlistOf file) (suc delay)))
+      (clausesOf refutation) checked
+  pub is : result ≡ judgementOf (netlistOf file) delay vector rooms checked

@@ -1,21 +1,20 @@
--- The steps of a certificate call: a refusal; and of an accepted netlist the vector's part and the refutation's, each
--- with its rows and what it leaves in its own slices. These serve the code. Interface: Zeroed, Witnessed, Refutes.
+-- The steps of a certificate call: a refusal; of an accepted netlist the refutation's part; and the whole certificate.
+-- Each with its rows and what it leaves in its slices. These serve the code. Interface: Zeroed, Refutes, Certified.
 use mathlib.Core.Path.{_≡_}
 use mathlib.Core.List.{List}
-use Prim.Native.Nat.{ℕ}
+use Prim.Native.Nat.{ℕ, suc}
 use lib.IntN.{ℤ, pos}
 use lib.ListN.{length, replicate}
 use Rattle.refusal.specs.declared.Refusal.{Refusal}
 use Rattle.netlist.specs.Netlist.{Netlist}
-use Rattle.settle.specs.Promise.{evaluationOf}
 use Rattle.clauses.specs.Clauses.{clausesOf}
 use Rattle.refute.specs.declared.Checked.{Checked}
 use Rattle.refute.specs.declared.Checked.the-variants.{Passes}
 use Rattle.refute.specs.Rows.{andThen, refutationRows}
 use Rattle.refute.specs.Promise.{Answers}
 use Rattle.formula.specs.Promise.{numbersFor, countsFor, buildingOf}
-use Rattle.certificate.specs.declared.Judged.the-variants.{Refused}
-use Rattle.certificate.specs.Promise.{Rooms, Judgement, witnessRow, builtRow}
+use Rattle.certificate.specs.declared.Judged.the-variants.{Accepted, Refused}
+use Rattle.certificate.specs.Promise.{Rooms, Judgement, builtRow, roomsOf, leaving, certificateRows, accepted}
 
 -- a refusal: every lent slice is zeroed
 pub record Zeroed (rooms : Rooms) (refusal : Refusal) (result : Judgement) : Type 0 where
@@ -25,15 +24,6 @@ pub record Zeroed (rooms : Rooms) (refusal : Refusal) (result : Judgement) : Typ
   pub pairs-are : result .pairs ≡ replicate (rooms .pairs) 0
   pub formula-is : result .formula ≡ replicate (rooms .formula) (pos 0)
   pub propagation-is : result .propagation ≡ replicate (rooms .propagation) 0
-
--- the vector is evaluated, and settles at the delay or not
-pub record Witnessed (net : Netlist) (delay : ℕ) (vector : List ℕ) (valuesRoom timesRoom : ℕ) (answer : Checked)
-    (values times : List ℕ) : Type 0 where
-  pub row-is : answer ≡ witnessRow delay (evaluationOf net vector valuesRoom timesRoom .answer)
-  pub values-are : values ≡ evaluationOf net vector valuesRoom timesRoom .values
-  pub times-are : times ≡ evaluationOf net vector valuesRoom timesRoom .times
-  pub values-long : length values ≡ valuesRoom
-  pub times-long : length times ≡ timesRoom
 
 -- the formula for a target is built, and the refutation tested against its numbers
 pub record Refutes (net : Netlist) (target : ℕ) (refutation : List ℤ) (pairsRoom formulaRoom propagationRoom : ℕ)
@@ -49,3 +39,13 @@ pub record Refutes (net : Netlist) (target : ℕ) (refutation : List ℤ) (pairs
   pub pairs-long : length pairs ≡ pairsRoom
   pub formula-long : length formula ≡ formulaRoom
   pub propagation-long : length propagation ≡ propagationRoom
+
+-- the vector is evaluated and settles at the delay; then the refutation is tested against the formula for one more
+pub record Certified (net : Netlist) (delay : ℕ) (vector : List ℕ) (refutation : List ℤ) (rooms : Rooms)
+    (answer : Checked) (values times pairs : List ℕ) (formula : List ℤ) (propagation : List ℕ) : Type 0 where
+  pub answers :
+      Answers (certificateRows net delay vector refutation rooms) (clausesOf (numbersFor net (suc delay)))
+      (clausesOf refutation) answer
+  pub leaves :
+      answer ≡ Passes → leaving Accepted values times pairs formula propagation ≡ accepted net delay vector rooms
+  pub rooms-are : roomsOf values times pairs formula propagation ≡ rooms

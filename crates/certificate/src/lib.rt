@@ -13,8 +13,8 @@ ghost use Rattle.netlist.specs.File.{netlistAt, netlistOf};
 ghost use Rattle.settle.specs.Settling.{atZero};
 ghost use Rattle.certificate.specs.declared.Judged.the-variants.{Accepted};
 ghost use Rattle.certificate.specs.Largest.{Largest};
-ghost use Rattle.certificate.specs.Promise.{roomsOf, leaving, certificateRows, Decides, Judges};
-ghost use Rattle.certificate.specs.Steps.{Zeroed, Witnessed, Refutes};
+ghost use Rattle.certificate.specs.Promise.{roomsOf, leaving, Judges};
+ghost use Rattle.certificate.specs.Steps.{Zeroed, Refutes, Certified};
 
 // What is said of a certificate.
 pub enum Judged {
@@ -46,31 +46,6 @@ fn refuse(
     Judged::Refused(refusal)
 }
 
-// The vector's part: it has a value for each input, there is room for values and times, and it settles at the delay.
-fn witness(
-    file: &[u8],
-    shape: Shape,
-    delay: u32,
-    vector: &[u8],
-    values: &mut [u8],
-    times: &mut [u32],
-) -> Checked
-    requires { ⌜ Holds (now file) shape ⌝ }
-    ensures { λ r. ⌜ Witnessed (netlistAt (now (file .entry)) shape) delay (now (vector .entry))
-        (length (now (values .entry))) (length (now (times .entry))) r (now (values .exit)) (now (times .exit)) ⌝ }
-{
-    let settled = settle::evaluate_accepted(file, shape, vector, values, times);
-    match settled {
-        Settled::Refused(refusal) => Checked::Refused(refusal),
-        Settled::At(time) => {
-            if time == delay {
-                return Checked::Passes;
-            }
-            Checked::Refused(Refusal::Witness(time))
-        }
-    }
-}
-
 // The refutation's part: the formula for the target is built, and the refutation tested against its numbers.
 fn refutes(
     file: &[u8],
@@ -97,8 +72,9 @@ fn refutes(
     }
 }
 
-// Of an accepted file: the vector's part, then the refutation's for one more than the delay.
-fn judge_accepted(
+// Of an accepted file: the vector has a value for each input, there is room for values and times, and it settles at the
+// delay; then the refutation's part, for one more than the delay.
+fn certify(
     file: &[u8],
     shape: Shape,
     delay: u32,
@@ -109,42 +85,31 @@ fn judge_accepted(
     pairs: &mut [u32],
     formula: &mut [i32],
     propagation: &mut [u8],
-) -> Judged
+) -> Checked
     requires { ⌜ Holds (now file) shape ⌝ }
-    ensures { λ r. ⌜ Decides
-        (certificateRows (netlistAt (now (file .entry)) shape) delay (now (vector .entry)) (now (refutation .entry))
-        (roomsOf (now (values .entry)) (now (times .entry)) (now (pairs .entry)) (now (formula .entry))
-        (now (propagation .entry))))
-        (netlistAt (now (file .entry)) shape) delay (now (vector .entry)) (now (refutation .entry))
+    ensures { λ r. ⌜ Certified (netlistAt (now (file .entry)) shape) delay (now (vector .entry))
+        (now (refutation .entry))
         (roomsOf (now (values .entry)) (now (times .entry)) (now (pairs .entry)) (now (formula .entry))
         (now (propagation .entry)))
-        (leaving r (now (values .exit)) (now (times .exit)) (now (pairs .exit)) (now (formula .exit))
-        (now (propagation .exit))) ⌝ }
+        r (now (values .exit)) (now (times .exit)) (now (pairs .exit)) (now (formula .exit))
+        (now (propagation .exit)) ⌝ }
 {
-    let witnessed = witness(file, shape, delay, vector, values, times);
-    match witnessed {
-        Checked::Refused(refusal) => refuse(refusal, values, times, pairs, formula, propagation),
-        Checked::Passes => {
-            let tested = refutes(
-                file,
-                shape,
-                delay + 1,
-                refutation,
-                pairs,
-                formula,
-                propagation,
-            );
-            match tested {
-                Checked::Refused(refusal) => refuse(
-                    refusal,
-                    values,
-                    times,
+    let settled = settle::evaluate_accepted(file, shape, vector, values, times);
+    match settled {
+        Settled::Refused(refusal) => Checked::Refused(refusal),
+        Settled::At(time) => {
+            if time == delay {
+                return refutes(
+                    file,
+                    shape,
+                    delay + 1,
+                    refutation,
                     pairs,
                     formula,
                     propagation,
-                ),
-                Checked::Passes => Judged::Accepted,
+                );
             }
+            Checked::Refused(Refusal::Witness(time))
         }
     }
 }
@@ -175,7 +140,7 @@ pub fn judge(
     match opened {
         Opened::Refused(refusal) => refuse(refusal, values, times, pairs, formula, propagation),
         Opened::Accepted(shape) => {
-            judge_accepted(
+            let checked = certify(
                 file,
                 shape,
                 delay,
@@ -186,7 +151,18 @@ pub fn judge(
                 pairs,
                 formula,
                 propagation,
-            )
+            );
+            match checked {
+                Checked::Refused(refusal) => refuse(
+                    refusal,
+                    values,
+                    times,
+                    pairs,
+                    formula,
+                    propagation,
+                ),
+                Checked::Passes => Judged::Accepted,
+            }
         }
     }
 }
