@@ -291,8 +291,8 @@ def false_certificates(netlist, data, delay, vector, steps):
     nodes, (pairs, numbers) = node_count(netlist), size_of_formula(data, delay + 1)
     room = needed_by_judge(nodes, pairs, numbers)
     refutation = numbers_of(steps)
-    wrong = [(claimed, vector, refutation, Refused(document.WITNESS, delay)) for claimed in {max(0, delay - 1), delay + 1}
-             if claimed != delay]
+    wrong = [(claimed, vector, refutation, Refused(document.WITNESS, delay))
+             for claimed in {max(0, delay - 1), delay + 1} if claimed != delay]
     for other in methods.all_vectors(netlist.inputs):
         _, times = document.settle(netlist, other)
         if document.circuit_time(netlist, times) != delay:
