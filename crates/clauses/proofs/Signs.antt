@@ -34,11 +34,6 @@ unfolding codeOf
 above (pos n) e = record { is = refl; code = refl }
 above (negsuc n) e = let z : _≡_ {A = ℕ} 0 1 = cc in absurd (omega arith)
 
--- a number whose bits are 0 is 0
-pub bits-zero : (z : ℤ) → mag z < 2 ^ 31 → ofZ w32 z ≡ 0 → z ≡ pos 0
-bits-zero (pos n) h e = ap pos e
-bits-zero (negsuc n) h e = absurd (omega arith)
-
 mag-of-negation : (n : ℕ) → mag (negℤ (pos n)) ≤ n
 mag-of-negation zero = omega arith
 mag-of-negation (suc n) = omega arith

@@ -75,6 +75,7 @@ use Rattle.refute.specs.Passes.{
   verdict,
 }
 use Rattle.refute.proofs.Marks.{
+  both,
   same-is,
   same-itself,
   same-or-not,
@@ -275,9 +276,6 @@ module _ (stored : List (List Literal)) (asserted : List Literal) where
   abbrev pub Fits : List (List Literal) → List ℕ → Type 0
   Fits cs marks = (c : List Literal) → List·Memᴰ c cs → (l : Literal) → List·Memᴰ l c → l .1 < length marks
 
-  apart : {A : Type 0} {b : Bool} → b ≡ true → b ≡ false → A
-  apart p q = let w : _≡_ {A = ℕ} 0 1 = cc in absurd (omega arith)
-
   pass-ends : (cs : List (List Literal)) (marks : List ℕ) (moved : Bool) → Fits cs marks → Tidy marks →
       Ends cs marks moved (pass marks moved cs)
   unfolding pass
@@ -338,7 +336,7 @@ module _ (stored : List (List Literal)) (asserted : List Literal) where
                 tidy = e .tidy;
                 keeps = λ m t. e .keeps m (assign-keeps marks l (free-not-false marks l (h .free)) m t);
                 fewer = let d = down in let f = e .fewer in omega arith;
-                still = λ q. apart refl (e .still q .0);
+                still = λ q. both refl (e .still q .0);
               }
 
   refutes-ends : (n : ℕ) (marks : List ℕ) → Fits stored marks → Tidy marks → Holds marks → zeros marks < n →

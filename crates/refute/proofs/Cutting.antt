@@ -40,6 +40,7 @@ use Rattle.refute.specs.Parts.{
 use Rattle.refute.specs.Reading.{NextZero}
 use Rattle.refute.specs.declared.Span.{Span}
 use Rattle.refute.specs.declared.Found.the-variants.{At, Beyond}
+use Rattle.refute.proofs.Marks.{both}
 use Rattle.refute.proofs.Walking.{NoZero, no-zero}
 
 abbrev joined : List (List ℤ) → List ℤ
@@ -282,9 +283,6 @@ pub record Spanned (formula refutation : List ℤ) (number : ℕ) (span : Span) 
   pub second-fits : span .second ≡ true → span .end ≤ length refutation
   pub holds : spanned formula refutation span ≡ getD (parts formula ++ parts refutation) number []
 
-no : {A : Type 0} {b : Bool} → b ≡ true → b ≡ false → A
-no p q = let w : _≡_ {A = ℕ} 0 1 = cc in absurd (omega arith)
-
 second-span : (formula refutation : List ℤ) (number n : ℕ) → number ≡ length (parts formula) + n →
     Spanned formula refutation number (spanSecond (foundIn refutation n) (length refutation))
 unfolding foundIn
@@ -303,14 +301,14 @@ second-span formula refutation number n e = go (ltb n (length (parts refutation)
     go true q =
         record {
           rises = place-fits refutation n .0;
-          first-fits = λ f. no refl f;
+          first-fits = λ f. both refl f;
           second-fits = λ _. place-fits refutation n .1;
           holds = part-at refutation n (ltb-true n (length (parts refutation)) q) ∙ sym entry;
         }
     go false q =
         record {
           rises = omega arith;
-          first-fits = λ f. no refl f;
+          first-fits = λ f. both refl f;
           second-fits = λ _. omega arith;
           holds =
               ap (λ (k : ℕ). take k (drop (length refutation) refutation))
@@ -335,7 +333,7 @@ span-is formula refutation number = go (ltb number (length (parts formula))) ref
         record {
           rises = place-fits formula number .0;
           first-fits = λ _. place-fits formula number .1;
-          second-fits = λ f. no f refl;
+          second-fits = λ f. both f refl;
           holds =
               part-at formula number (ltb-true number (length (parts formula)) q)
               ∙ sym

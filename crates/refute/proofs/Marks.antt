@@ -13,6 +13,10 @@ use Rattle.basics.proofs.Truth.{decide, agree, agrees, and-both, and-left, and-
 use Rattle.clauses.specs.Clauses.{Literal, opposite}
 use Rattle.refute.specs.Passes.{same, wanted, isTrue, isFree, assign}
 
+-- no test comes out both ways
+pub both : {A : Type 0} {b : Bool} → b ≡ true → b ≡ false → A
+both p q = let w : _≡_ {A = ℕ} 0 1 = cc in absurd (omega arith)
+
 -- ---- literals
 
 pub same-is : (l m : Literal) → T (same l m) → l ≡ m

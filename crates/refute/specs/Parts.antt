@@ -32,12 +32,12 @@ unfoldable pub foundIn : List ℤ → ℕ → Found
 foundIn zs n =
     cond (ltb n (length (parts zs))) (At (startOf zs n) (startOf zs (suc n))) (Beyond (n - length (parts zs)))
 
--- a number that was not found in the formula is looked for in the refutation; "a number that names no clause gives the
--- empty part at the refutation's end"
+-- what is found in the refutation; "a number that names no clause gives the empty part at the refutation's end"
 abbrev pub spanSecond : Found → ℕ → Span
 spanSecond (At start end) length = record { second = true; start = start; end = end }
 spanSecond (Beyond n) length = record { second = true; start = length; end = length }
 
+-- what is found in the formula; what is not is looked for in the refutation
 abbrev pub spanFirst : Found → List ℤ → Span
 spanFirst (At start end) refutation = record { second = false; start = start; end = end }
 spanFirst (Beyond n) refutation = spanSecond (foundIn refutation n) (length refutation)

@@ -83,10 +83,11 @@ abbrev pub answerOf : Verdict → Checked
 answerOf passes = Passes
 answerOf (stops i) = Refused (Step i)
 
--- the passes' answer on one clause, and on a refutation, where the marks are those given
+-- the passes' answer on one clause, where the marks are those given
 abbrev pub followsFrom : List ℕ → List ℤ → List ℤ → List ℤ → Bool
 followsFrom marks formula earlier clause =
     follows (length marks) (clausesOf formula ++ clausesOf earlier) (literalsOf clause)
 
+-- and on a refutation
 abbrev pub verdictOn : List ℕ → List ℤ → List ℤ → Checked
 verdictOn marks formula refutation = answerOf (verdict (length marks) (clausesOf formula) (clausesOf refutation))
