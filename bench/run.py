@@ -4,8 +4,8 @@
 Builds one program of the library's archive (target/staticlib/libbuzzlumen.a), the twin and cost.c, and counts the
 instructions of a call as the difference of a run with one call more: by valgrind on x86-64, by a small plugin of qemu's
 on Arm. Prints a table of ratios and how the cost grows, in the library's instructions for each gate, pair or step.
-`--quick` leaves out 65,536 pairs and the refutation of some thousand steps, which take minutes. A benchmark, not a test.
-Assumes Debian, and the right to install what is missing.
+`--quick` leaves out 65,536 pairs and the refutation of some thousand steps, which take minutes. A benchmark, not a
+test. Assumes Debian, and the right to install what is missing.
 """
 
 import os
@@ -101,14 +101,14 @@ def building_cases(folder, dice, quick, program):
 
 
 def checking_cases(folder, quick):
-    """Refutations that a solver wrote, of some hundred to some thousand steps: pigeonhole formulas, where they grow fast."""
+    """Refutations that a solver wrote, of some hundred to some thousand steps: of pigeonhole formulas they grow fast."""
     for clauses, variables in map(pigeons, (5, 6) if quick else (5, 6, 7)):
         _, steps = solvers.cadical(variables, clauses)
         flat = [literal for clause in clauses for literal in (*clause, 0)]
         proof = [literal for clause in steps for literal in (*clause, 0)]
         yield (f"check, {len(clauses):,} clauses, {len(steps):,} steps", "check",
-               [str(variables), write(folder, "formula", numbers(flat)), write(folder, "refutation", numbers(proof))], 1,
-               (len(steps), "step"))
+               [str(variables), write(folder, "formula", numbers(flat)), write(folder, "refutation", numbers(proof))],
+               1, (len(steps), "step"))
 
 
 def pigeons(holes):

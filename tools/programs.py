@@ -1,4 +1,4 @@
-"""The four programs over the proved library: packs what they read on standard input, runs them, and reads what they print.
+"""The four programs over the proved library: packs what they read on standard input, runs them, reads what they print.
 
 They stand in target/bin, where `rt check` writes them; the variable BUZZLUMEN_PROGRAMS names another folder.
 All numbers are packed little endian, four bytes each, as document 01 has it.

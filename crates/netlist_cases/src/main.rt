@@ -1,6 +1,6 @@
 // Reads a bundle of cases from standard input, each a length (4 bytes, little endian) and that many bytes, and prints
 // one line for each: `accepted I G P Q` or `refused number place`. It ends with the line `bad bundle` at a length over
-// 65,535 and at a case that is cut short. What matters is the contract of netlist::open.
+// 65,535 and at a case that is cut short. What matters is the contract of netlist::open. Assumes nothing of its own.
 use console::Word;
 use netlist::Opened;
 use netlist::Shape;

@@ -3,7 +3,7 @@
 // filled with a pattern. For each case it prints one line: `settled time` or `refused number place`, then ` values` and
 // ` times`, each followed by what was lent and four numbers behind it. It ends with the line `bad bundle` at a netlist
 // over 65,535 bytes, a vector over 255, a room over 600, and a case that is cut short. What matters is the contract of
-// settle::evaluate.
+// settle::evaluate. Assumes nothing of its own.
 use console::Word;
 use settle::Settled;
 ghost use mathlib.Core.Path.{_≡_};
