@@ -1,3 +1,4 @@
 -- The laws.
 pub mod Small
 pub mod Largest
+pub mod Unique
