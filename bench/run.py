@@ -3,7 +3,8 @@
 
 Builds one program of the library's archive (target/staticlib/libbuzzlumen.a), the twin and cost.c, and counts the
 instructions of a call as the difference of a run with one call more: by valgrind on x86-64, by a small plugin of qemu's
-on Arm. Prints a table of ratios and how the cost grows, in the library's instructions for each gate, pair or step.
+on Arm. Prints a table of ratios and how the cost grows, in the library's instructions for each gate, pair or step. The
+ratio of times stands beside it as a hint: it depends on the machine and on what else runs there.
 `--quick` leaves out 65,536 pairs and the refutation of some thousand steps, which take minutes. A benchmark, not a
 test. Assumes Debian, and the right to install what is missing.
 """
@@ -14,6 +15,7 @@ import struct
 import subprocess
 import sys
 import tempfile
+import time
 
 HERE = os.path.dirname(os.path.abspath(__file__))
 ROOT = os.path.dirname(HERE)
@@ -25,6 +27,10 @@ import solvers  # noqa: E402
 import tools  # noqa: E402
 
 SEED = 2026
+
+# How many instructions' worth of calls are timed, and how often; the best counts.
+TIMED = 300_000_000
+TIMES = 5
 
 
 def build_program(folder, archive):
@@ -65,6 +71,19 @@ def cost(count, program, which, function, arguments, calls):
     return (more - once) // calls, answer
 
 
+def seconds(program, which, function, arguments, calls):
+    """Seconds of one call: what so many calls more add, shared among them, by the shortest runs."""
+    def shortest(count):
+        command = [*tools.runner(), program, which, function, str(count), *arguments]
+        taken = []
+        for _ in range(TIMES):
+            began = time.perf_counter()
+            subprocess.run(command, stdout=subprocess.DEVNULL, check=True)
+            taken.append(time.perf_counter() - began)
+        return min(taken)
+    return (shortest(1 + calls) - shortest(1)) / calls
+
+
 def write(folder, name, data):
     """A file of the case, and its path."""
     path = os.path.join(folder, name)
@@ -101,7 +120,7 @@ def building_cases(folder, dice, quick, program):
 
 
 def checking_cases(folder, quick):
-    """Refutations that a solver wrote, of some hundred to some thousand steps: of pigeonhole formulas they grow fast."""
+    """Refutations that a solver wrote of pigeonhole formulas, of some hundred to some thousand steps."""
     for clauses, variables in map(pigeons, (5, 6) if quick else (5, 6, 7)):
         _, steps = solvers.cadical(variables, clauses)
         flat = [literal for clause in clauses for literal in (*clause, 0)]
@@ -132,7 +151,11 @@ def compare(count, program, case):
     twins, other = cost(count, program, "twin", function, arguments, calls)
     if answer != other:
         sys.exit(f"{name}: the answers differ: {answer.strip()} and {other.strip()}")
-    print(f"{name:<48} {ours:>14,} {twins:>14,} {ours / twins:>7.2f} {ours / units:>12,.0f} a {unit}", flush=True)
+    timed = max(1, TIMED // ours)
+    hint = seconds(program, "library", function, arguments, timed)
+    hint /= seconds(program, "twin", function, arguments, timed)
+    print(f"{name:<48} {ours:>14,} {twins:>14,} {ours / twins:>7.2f} {hint:>7.2f} {ours / units:>12,.0f} a {unit}",
+          flush=True)
 
 
 def main():
@@ -145,7 +168,7 @@ def main():
     with tempfile.TemporaryDirectory() as folder:
         program = build_program(folder, archive)
         count = counter(folder)
-        print(f"{'case':<48} {'library':>14} {'twin':>14} {'ratio':>7} {'growth':>12}")
+        print(f"{'case':<48} {'library':>14} {'twin':>14} {'ratio':>7} {'time':>7} {'growth':>12}")
         for case in zeroing_cases():
             compare(count, program, case)
         for case in evaluation_cases(folder, dice):
