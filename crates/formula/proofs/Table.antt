@@ -21,7 +21,7 @@ use Rattle.pairs.specs.Table.{pairAt, keyOf, Sorted}
 use Rattle.pairs.specs.Promise.{pairsAt, Lists}
 use Rattle.pairs.proofs.Flat.{flat-length, pairs-flat, mem-at}
 use Rattle.pairs.proofs.Closed.{pair-for, place-below, place-at, output-for, driver-for}
-use Rattle.pairs.proofs.Search.{rising-sorted}
+use Rattle.pairs.proofs.Search.{rising-sorted, lists-sorted}
 use Rattle.pairs.proofs.Whole.{lists-for}
 use Rattle.formula.specs.Late.{Asking, Drivers, AllStand, OutputsAsk, Slices}
 
@@ -159,4 +159,5 @@ module _ (file : List ℕ) (shape : Shape) (target : ℕ) (ok : Holds file shape
         nodes-few = omega (arith, ok .inputs-few, ok .gates-few);
         tops-all = all-tops;
         pairs-few = omega (arith, flat-length (pairsAt file shape target));
+        sorted = lists-sorted lists;
       }

@@ -3,9 +3,9 @@
 use mathlib.Core.Path.{_≡_}
 use mathlib.Core.Bool.{Bool, false, not, cond}
 use mathlib.Core.List.{List, [], _∷_, _++_, map}
-use Prim.Native.Nat.{ℕ, suc, _+_, _-_, _/_, _≤_, _<_}
+use Prim.Native.Nat.{ℕ, suc, _+_, _-_, _*_, _/_, _≤_, _<_}
 use lib.Dec.{leb, ltb, eqb}
-use lib.ListN.{length, getD}
+use lib.ListN.{length, getD, take}
 use Rattle.basics.specs.Lists.{concatMap}
 use Rattle.netlist.specs.declared.Kind.{Kind}
 use Rattle.netlist.specs.declared.Kind.the-variants.{Simple, Parity, Mux}
@@ -14,8 +14,8 @@ use Rattle.netlist.specs.Netlist.{Pin}
 use Rattle.netlist.specs.File.{firstAt, countAt, driverAt, delayAt, outputAt, cellAt, netlistAt}
 use Rattle.clauses.specs.Codes.{literalCode}
 use Rattle.pairs.specs.Pairs.{placeOf}
-use Rattle.pairs.specs.Table.{pairsIn, pairAt}
-use Rattle.pairs.specs.Promise.{Findable}
+use Rattle.pairs.specs.Table.{pairsIn, pairAt, Sorted}
+use Rattle.pairs.specs.Promise.{Findable, Begins}
 use Rattle.formula.specs.Formula.{Part, sure, never, literal, clauseOf, late, nodeVariable}
 use Rattle.formula.specs.Emission.{Token, coded, ended, wants, tokensOf}
 
@@ -125,8 +125,14 @@ pub record AllStand (file : List ℕ) (shape : Shape) (tops table : List ℕ) : 
 pub record OutputsAsk (file : List ℕ) (shape : Shape) (tops table : List ℕ) (target : ℕ) : Type 0 where
   pub asks : (position : ℕ) → position < shape .outputs → Asking shape tops table (outputAt file shape position) target
 
--- the lent slices: no more nodes and pairs than there can be
+-- the lent slices: no more nodes and pairs than there can be, and the pairs in order
 pub record Slices (shape : Shape) (tops table : List ℕ) : Type 0 where
   pub nodes-few : shape .inputs + shape .gates ≤ 512
   pub tops-all : length tops ≡ shape .inputs + shape .gates
   pub pairs-few : length table ≤ 131072
+  pub sorted : Sorted (pairsIn (take (length table / 2 * 2) table))
+
+-- where the pairs of each node begin
+abbrev pub Started : Shape → List ℕ → List ℕ → Type 0
+Started shape table starts =
+    Begins (pairsIn (take (length table / 2 * 2) table)) starts (shape .inputs + shape .gates)

@@ -38,6 +38,7 @@ ghost use Rattle.formula.specs.Late.{
   OutputsAsk,
   outputsLate,
   Slices,
+  Started,
 };
 ghost use Rattle.formula.specs.Promise.{buildingOf, building};
 ghost use Rattle.formula.specs.Emission.{
@@ -353,8 +354,16 @@ fn surely_late(shape: Shape, tops: &[u32], node: usize, t: usize) -> bool
 }
 
 // "Node late at t" as a code: 1 if true, 0 if false, else the code of its pair's literal.
-fn late_code(shape: Shape, tops: &[u32], table: &[u32], node: usize, t: usize) -> usize
-    requires { ⌜ Slices shape (now tops) (now table) × Asking shape (now tops) (now table) node t ⌝ }
+fn late_code(
+    shape: Shape,
+    tops: &[u32],
+    table: &[u32],
+    starts: &[usize],
+    node: usize,
+    t: usize,
+) -> usize
+    requires { ⌜ Slices shape (now tops) (now table) × Asking shape (now tops) (now table) node t
+        × Started shape (now table) (now starts) ⌝ }
     ensures { λ r. ⌜ (r ≡ partCode (lateIn shape (now (tops .entry)) (now (table .entry)) node t)) × (r < 140000) ⌝ }
 {
     let top = lent::widen(tops[node]);
@@ -370,7 +379,7 @@ fn late_code(shape: Shape, tops: &[u32], table: &[u32], node: usize, t: usize) -
     if top < t {
         return 0;
     }
-    let place = pairs::place(table, table.len() / 2, node, t);
+    let place = pairs::place(table, table.len() / 2, starts, node, t);
     (shape.inputs + shape.gates + place + 1) * 2
 }
 
@@ -444,6 +453,7 @@ fn late_literals(
     count: usize,
     tops: &[u32],
     table: &[u32],
+    starts: &[usize],
     t: usize,
     formula: &mut [i32],
     at: Emitted,
@@ -451,6 +461,7 @@ fn late_literals(
     requires { ⌜
         Tables (now file) shape × Slices shape (now tops) (now table) × Drivers (now file) shape (now tops) (now table)
         first count t × Fits 256 at
+        × Started shape (now table) (now starts)
         ⌝ }
     ensures { λ r. ⌜
         Emits 256 (concatMap (λ p. partRun (pinLate shape (now (tops .entry)) (now (table .entry)) t p))
@@ -463,7 +474,7 @@ fn late_literals(
         let pin = first + i;
         let driver = netlist::driver_at(file, shape, pin);
         let delay = netlist::delay_at(file, shape, pin);
-        let code = late_code(shape, tops, table, driver, less(t, delay));
+        let code = late_code(shape, tops, table, starts, driver, less(t, delay));
         to = put_part(formula, to, code);
         i += 1;
     }
@@ -478,6 +489,7 @@ fn control_clauses(
     count: usize,
     tops: &[u32],
     table: &[u32],
+    starts: &[usize],
     c: bool,
     pair: usize,
     t: usize,
@@ -487,6 +499,7 @@ fn control_clauses(
     requires { ⌜
         Tables (now file) shape × Slices shape (now tops) (now table) × Drivers (now file) shape (now tops) (now table)
         first count t × (pair < 69000) × Fits 1024 at
+        × Started shape (now table) (now starts)
         ⌝ }
     ensures { λ r. ⌜
         Emits 1024 (concatMap (pinControl shape (now (tops .entry)) (now (table .entry)) c pair t)
@@ -500,7 +513,7 @@ fn control_clauses(
         let pin = first + i;
         let driver = netlist::driver_at(file, shape, pin);
         let delay = netlist::delay_at(file, shape, pin);
-        let late = late_code(shape, tops, table, driver, less(t, delay));
+        let late = late_code(shape, tops, table, starts, driver, less(t, delay));
         let driver_is_not = node_code(driver, !c);
         to = control_clause(negated, late, driver_is_not, formula, to);
         i += 1;
@@ -516,6 +529,7 @@ fn late_clause(
     count: usize,
     tops: &[u32],
     table: &[u32],
+    starts: &[usize],
     pair: usize,
     t: usize,
     formula: &mut [i32],
@@ -524,6 +538,7 @@ fn late_clause(
     requires { ⌜
         Tables (now file) shape × Slices shape (now tops) (now table) × Drivers (now file) shape (now tops) (now table)
         first count t × (pair < 69000) × Fits 258 at
+        × Started shape (now table) (now starts)
         ⌝ }
     ensures { λ r. ⌜
         Emits 258 (driversLate shape (now (tops .entry)) (now (table .entry)) pair
@@ -534,7 +549,18 @@ fn late_clause(
         return at;
     }
     let negated = put_literal(formula, at, pair * 2 + 1);
-    let drivers = late_literals(file, shape, first, count, tops, table, t, formula, negated);
+    let drivers = late_literals(
+        file,
+        shape,
+        first,
+        count,
+        tops,
+        table,
+        starts,
+        t,
+        formula,
+        negated,
+    );
     put_end(formula, drivers)
 }
 
@@ -545,6 +571,7 @@ fn pair_clauses(
     gate: Gate,
     tops: &[u32],
     table: &[u32],
+    starts: &[usize],
     pair: usize,
     t: usize,
     formula: &mut [i32],
@@ -553,6 +580,7 @@ fn pair_clauses(
     requires { ⌜
         Tables (now file) shape × Slices shape (now tops) (now table) × Drivers (now file) shape (now tops) (now table)
         (gate .first) (gate .count) t × (pair < 69000) × Fits 1282 at
+        × Started shape (now table) (now starts)
         ⌝ }
     ensures { λ r. ⌜
         Emits 1282 (clausesIn shape (now (tops .entry)) (now (table .entry)) pair (gate .kind)
@@ -562,7 +590,19 @@ fn pair_clauses(
 {
     let first = gate.first;
     let count = gate.count;
-    let late = late_clause(file, shape, first, count, tops, table, pair, t, formula, at);
+    let late = late_clause(
+        file,
+        shape,
+        first,
+        count,
+        tops,
+        table,
+        starts,
+        pair,
+        t,
+        formula,
+        at,
+    );
     let kind = gate.kind;
     match kind {
         Kind::Simple { c, k: _ } => {
@@ -573,6 +613,7 @@ fn pair_clauses(
                 count,
                 tops,
                 table,
+                starts,
                 c,
                 pair,
                 t,
@@ -595,12 +636,14 @@ fn all_pairs(
     shape: Shape,
     tops: &[u32],
     table: &[u32],
+    starts: &[usize],
     formula: &mut [i32],
     at: Emitted,
 ) -> Emitted
     requires { ⌜
         Holds (now file) shape × Slices shape (now tops) (now table) × AllStand (now file) shape (now tops) (now table)
         × Fits 90000000 at
+        × Started shape (now table) (now starts)
         ⌝ }
     ensures { λ r. ⌜
         Emits 90000000 (concatMap (pairRun (now (file .entry)) shape (now (tops .entry)) (now (table .entry)))
@@ -620,6 +663,7 @@ fn all_pairs(
             gate,
             tops,
             table,
+            starts,
             nodes + k + 1,
             t,
             formula,
@@ -655,6 +699,7 @@ fn output_literals(
     shape: Shape,
     tops: &[u32],
     table: &[u32],
+    starts: &[usize],
     target: usize,
     formula: &mut [i32],
     at: Emitted,
@@ -662,6 +707,7 @@ fn output_literals(
     requires { ⌜
         Holds (now file) shape × Slices shape (now tops) (now table) × OutputsAsk (now file) shape (now tops)
         (now table) target × Fits 64 at
+        × Started shape (now table) (now starts)
         ⌝ }
     ensures { λ r. ⌜
         Emits 64 (concatMap (λ o. partRun (lateIn shape (now (tops .entry)) (now (table .entry)) o target))
@@ -672,7 +718,7 @@ fn output_literals(
     let mut i = 0;
     while i < shape.outputs {
         let output = netlist::output_at(file, shape, i);
-        let code = late_code(shape, tops, table, output, target);
+        let code = late_code(shape, tops, table, starts, output, target);
         to = put_part(formula, to, code);
         i += 1;
     }
@@ -685,6 +731,7 @@ fn output_clause(
     shape: Shape,
     tops: &[u32],
     table: &[u32],
+    starts: &[usize],
     target: usize,
     formula: &mut [i32],
     at: Emitted,
@@ -692,6 +739,7 @@ fn output_clause(
     requires { ⌜
         Holds (now file) shape × Slices shape (now tops) (now table) × OutputsAsk (now file) shape (now tops)
         (now table) target × Fits 65 at
+        × Started shape (now table) (now starts)
         ⌝ }
     ensures { λ r. ⌜
         Emits 65 (outputsLate (now (file .entry)) shape (now (tops .entry)) (now (table .entry)) target)
@@ -701,7 +749,7 @@ fn output_clause(
     if output_sure(file, shape, tops, target) {
         return at;
     }
-    let outputs = output_literals(file, shape, tops, table, target, formula, at);
+    let outputs = output_literals(file, shape, tops, table, starts, target, formula, at);
     put_end(formula, outputs)
 }
 
@@ -729,9 +777,16 @@ fn emit(
         numbers: 0,
         clauses: 0,
     };
+    let mut starts = [0usize; 513];
+    pairs::starts(
+        table,
+        table.len() / 2,
+        shape.inputs + shape.gates,
+        &mut starts,
+    );
     let gates = all_gates(file, shape, formula, start);
-    let pairs = all_pairs(file, shape, tops, table, formula, gates);
-    output_clause(file, shape, tops, table, target, formula, pairs)
+    let pairs = all_pairs(file, shape, tops, table, &starts, formula, gates);
+    output_clause(file, shape, tops, table, &starts, target, formula, pairs)
 }
 
 // The formula of an accepted file whose tops and pairs are known; 9 where it has no room.

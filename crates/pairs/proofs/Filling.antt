@@ -1,6 +1,7 @@
 -- The loop that fills the table: its end holds the pairs of the least set from the key (f, b) on, so that at the end it
 -- holds all, and where one more is asked for and no room is left there are too many. Laws: filling-starts,
--- filling-bound, filling-top, filling-sorted, filling-down, filling-more, filling-full, filling-ends. Assumes nothing.
+-- filling-bound, filling-top, filling-sorted, filling-down, filling-more, filling-ready, filling-full, filling-ends.
+-- Assumes nothing.
 use mathlib.Core.Path.{_≡_, refl, sym, ap, ap₂, subst, _∙_}
 use mathlib.Core.Logic.{_⊎_, inl, inr}
 use mathlib.Core.List.{
@@ -27,15 +28,20 @@ use Rattle.settle.specs.Settling.{topOf, atZero}
 use Rattle.settle.proofs.Nodes.{tops-small}
 use Rattle.pairs.specs.Pairs.{flatPairs, pairsFor, pairList}
 use Rattle.pairs.specs.Rising.{Before, Rising}
-use Rattle.pairs.specs.Table.{pairsIn, keyOf, Sorted, Most, Asks}
+use Rattle.pairs.specs.Table.{pairsIn, keyOf, Sorted, Most, Asks, Ready}
 use Rattle.pairs.specs.Promise.{Tops, pairsAt}
 use Rattle.pairs.proofs.Least.{is-pair}
 use Rattle.pairs.proofs.Rising.{before-irreflexive, before-transitive, above-of, pairs-rising}
 use Rattle.pairs.proofs.Unique.{rising-short, pairs-unique, asked-pairs}
 use Rattle.pairs.proofs.Flat.{part, pairs-flat}
 use Rattle.pairs.proofs.Search.{of-key, rising-sorted}
+use Rattle.pairs.proofs.Reading.{ready-more}
 use Rattle.pairs.proofs.Topping.{top-read}
 use Rattle.pairs.proofs.Step.{AskedAt, facts-of, stepped, asked-of}
+
+-- the pairs in the table's end
+abbrev pub foundIn : List ℕ → ℕ → List (ℕ × ℕ)
+foundIn table at = pairsIn (take (length table - at * 2) (drop (at * 2) table))
 
 pub record Filling (file : List ℕ) (shape : Shape) (target : ℕ) (table₀ table : List ℕ) (at f b : ℕ) : Type 0 where
   pub done : List (ℕ × ℕ)
@@ -87,11 +93,12 @@ module _ {file : List ℕ} {shape : Shape} (holds : Holds file shape) (target : 
         full = λ n s a h. absurd (omega (arith, facts n s a .1, facts n s a .4));
       }
 
-  module _ {table₀ table : List ℕ} {at f b : ℕ} (w : Filling file shape target table₀ table at f b) where
-    -- the pairs in the table's end are those found
-    seen : pairsIn (take (length table - at * 2) (drop (at * 2) table)) ≡ w .done
-    seen = ap pairsIn (part table (at * 2) ∙ w .is) ∙ pairs-flat (w .done)
+  -- the pairs in the table's end are those found
+  seen : {table₀ table : List ℕ} {at f b : ℕ} (w : Filling file shape target table₀ table at f b) →
+      foundIn table at ≡ w .done
+  seen {table = table} {at = at} w = ap pairsIn (part table (at * 2) ∙ w .is) ∙ pairs-flat (w .done)
 
+  module _ {table₀ table : List ℕ} {at f b : ℕ} (w : Filling file shape target table₀ table at f b) where
     -- b is a top and one more at most
     pub filling-bound : b ≤ 447553
     filling-bound = omega (arith, w .bound, small f)
@@ -101,9 +108,9 @@ module _ {file : List ℕ} {shape : Shape} (holds : Holds file shape) (target : 
         x ≤ 447552
     filling-top h tops x q = top-read holds (f - 1) x tops (omega (arith, w .nodes)) q .1
 
-    pub filling-sorted : Sorted (pairsIn (take (length table - at * 2) (drop (at * 2) table)))
+    pub filling-sorted : Sorted (foundIn table at)
     filling-sorted =
-        rw seen
+        rw (seen w)
         (rising-sorted (w .done) (w .rising) (λ x m. omega (arith, facts (x .0) (x .1) (w .sound x m) .4)))
 
     -- t is what `asks` gives of the table's end
@@ -113,7 +120,7 @@ module _ {file : List ℕ} {shape : Shape} (holds : Holds file shape) (target : 
         t)
       where
         largest : Most (Asks (w .done) file shape target (shape .gates) f) b t
-        largest = rw seen at most
+        largest = rw (seen w) at most
 
         -- a pair of node f that is asked for and is not found yet is at most t
         at-most : (s : ℕ) → A f s → s < b → s ≤ t
@@ -223,6 +230,15 @@ module _ {file : List ℕ} {shape : Shape} (holds : Holds file shape) (target : 
                   List·Memᴰ (n, s) ((f, t) ∷ w .done)
               pick n s (inl m) = List·Memᴰ·tail m
               pick n s (inr q) = List·Memᴰ·head (ap₂ (λ (x y : ℕ). (x, y)) (q .0) (q .1))
+
+          -- for which the readers are ready
+          pub filling-ready : {readers passed : List ℕ} {n : ℕ} (table′ : List ℕ) → 0 < at →
+              length table′ ≡ length table → drop ((at - 1) * 2) table′ ≡ f ∷ t ∷ drop ((at - 1) * 2 + 2) table →
+              Ready (foundIn table at) file shape f b readers passed n →
+              Ready (foundIn table′ (at - 1)) file shape f t readers passed n
+          unfolding filling-more
+          filling-ready table′ h l e r =
+              rw (seen (filling-more table′ h l e)) (ready-more t (omega (arith, next .1)) (rw (seen w) at r))
 
           -- one more pair than there is room for
           pub filling-full : at ≡ 0 → length table₀ / 2 < length (pairsAt file shape target)

@@ -8,6 +8,7 @@ pub mod Closed
 pub mod Flat
 pub mod Search
 pub mod Largest
+pub mod Reading
 pub mod Moving
 pub mod Topping
 pub mod Step

@@ -1,17 +1,19 @@
 -- The search by halves: all before `low` are before the key, none from `high` on is, and half of what is between goes
 -- at each turn. A pair of the list stands where the search for its key ends. Laws: searching-starts, searching-up,
--- searching-down, searching-ends; sorted-le, rising-sorted; lists-sorted, lists-long, place-found. Assumes nothing.
+-- searching-down, searching-ends, searching-node; begins-at, begins-more; sorted-le, rising-sorted; lists-sorted,
+-- lists-long, place-found. Assumes nothing.
 use mathlib.Core.Path.{_≡_, refl, sym, ap, subst, _∙_}
 use mathlib.Core.Logic.{inl, inr}
 use mathlib.Core.List.{List, [], _∷_, List·Memᴰ, List·Memᴰ·head, List·Memᴰ·tail}
 use Prim.Native.Nat.{ℕ, zero, suc, _+_, _*_, _<_, _≤_}
 use native.Mathlib.Omega.{arith}
 use native.Mathlib.Decide.{decLt, ℕ-discrete}
-use lib.ListN.{length, take, length-take, List·getD-eq-default}
+use lib.ListN.{length, getD, set, take, length-take, List·getD-eq-default}
+use lib.Seq.{getD-set-same, getD-set-other}
 use Rattle.pairs.specs.Pairs.{placeOf}
 use Rattle.pairs.specs.Rising.{Before, Rising}
-use Rattle.pairs.specs.Table.{pairsIn, pairAt, keyOf, Sorted, Precede}
-use Rattle.pairs.specs.Promise.{Lists, Findable}
+use Rattle.pairs.specs.Table.{pairsIn, pairAt, keyOf, Sorted, Searching, Precede}
+use Rattle.pairs.specs.Promise.{Lists, Findable, Bounds, Begins}
 use Rattle.pairs.proofs.Rising.{above-at}
 use Rattle.pairs.proofs.Closed.{place-below, place-at}
 use Rattle.pairs.proofs.Flat.{mem-at, pairs-flat, flat-length}
@@ -58,12 +60,6 @@ sorted-le {l} s j k h w = go (ℕ-discrete j k)
 
 -- ---- the loop
 
-pub record Searching (l : List (ℕ × ℕ)) (key low high : ℕ) : Type 0 where
-  pub upto : low ≤ high
-  pub within : high ≤ length l
-  pub before : (k : ℕ) → k < low → keyOf (pairAt l k) < key
-  pub after : (k : ℕ) → high ≤ k → k < length l → key ≤ keyOf (pairAt l k)
-
 pub searching-starts : (l : List (ℕ × ℕ)) (key n : ℕ) → n ≡ length l → Searching l key 0 n
 searching-starts l key n e =
     record {
@@ -100,6 +96,43 @@ searching-ends b h =
       before = b .before;
       after = λ k w v. b .after k (omega arith) v;
     }
+
+-- the pairs of a node stand from where they begin to where those of the next do
+pub searching-node : {l : List (ℕ × ℕ)} {starts : List ℕ} (node time : ℕ) → time < 4294967296 →
+    Bounds l starts node → Searching l (node * 4294967296 + time) (getD starts node 0) (getD starts (node + 1) 0)
+searching-node {l} {starts} node time h w =
+    record {
+      upto = go (decLt (getD starts (node + 1) 0) (getD starts node 0));
+      within = w .high .within;
+      before = λ k i. omega (arith, w .low .before k i);
+      after = λ k i j. omega (arith, w .high .after k i j);
+    }
+  where
+    go : Dec (getD starts (node + 1) 0 < getD starts node 0) → getD starts node 0 ≤ getD starts (node + 1) 0
+    go (yes i) =
+        absurd
+        (omega (
+          arith,
+          w .low .before (getD starts (node + 1) 0) i,
+          w .high .after (getD starts (node + 1) 0) (omega arith) (omega (arith, w .low .within)),
+        ))
+    go (no i) = omega arith
+
+pub begins-at : {l : List (ℕ × ℕ)} {starts : List ℕ} {nodes : ℕ} (node : ℕ) → Begins l starts nodes → node < nodes →
+    Bounds l starts node
+begins-at node w h =
+    record { room = omega (arith, w .room); low = w .at node (omega arith); high = w .at (node + 1) (omega arith) }
+
+-- the first `node` are stored, and then one more
+pub begins-more : {l : List (ℕ × ℕ)} {node : ℕ} (starts : List ℕ) (p : ℕ) →
+    ((k : ℕ) → k < node → Precede l (k * 4294967296) (getD starts k 0)) → node < length starts →
+    Precede l (node * 4294967296) p →
+    (k : ℕ) → k < node + 1 → Precede l (k * 4294967296) (getD (set starts node p) k 0)
+begins-more {l} {node} starts p w h q k i = go (ℕ-discrete k node)
+  where
+    go : Dec (k ≡ node) → Precede l (k * 4294967296) (getD (set starts node p) k 0)
+    go (yes e) = rw (e, getD-set-same starts node p 0 h) q
+    go (no e) = rw (getD-set-other starts node k p 0 e) (w k (omega arith))
 
 -- ---- the place of a pair
 

@@ -1,8 +1,8 @@
--- What `tops`, `table` and `place` promise. Interface: all of it.
+-- What `tops`, `table`, `starts` and `place` promise. Interface: all of it.
 use mathlib.Core.Path.{_≡_}
 use mathlib.Core.List.{List, _++_, List·Memᴰ}
 use Prim.Native.Nat.{ℕ, _+_, _-_, _*_, _/_, _≤_, _<_, min}
-use lib.ListN.{length, take, replicate}
+use lib.ListN.{length, getD, take, replicate}
 use Rattle.netlist.specs.declared.Shape.{Shape}
 use Rattle.netlist.specs.File.{netlistAt}
 use Rattle.settle.specs.Settling.{topsOf, atZero}
@@ -10,6 +10,7 @@ use Rattle.pairs.specs.declared.Listed.{Listed}
 use Rattle.pairs.specs.declared.Listed.the-variants.{Count, TooMany}
 use Rattle.pairs.specs.Pairs.{flatPairs, pairsFor}
 use Rattle.pairs.specs.Rising.{Before, Rising}
+use Rattle.pairs.specs.Table.{Precede}
 
 -- a lent slice begins with the tops of all nodes
 pub record Tops (file : List ℕ) (shape : Shape) (tops : List ℕ) : Type 0 where
@@ -38,3 +39,14 @@ pub record Findable (table : List ℕ) (count node time : ℕ) : Type 0 where
   pub pairs : List (ℕ × ℕ)
   pub lists : Lists table count pairs
   pub here : List·Memᴰ (node, time) pairs
+
+-- where a node's pairs begin and end, in a list of starts
+pub record Bounds (l : List (ℕ × ℕ)) (starts : List ℕ) (node : ℕ) : Type 0 where
+  pub room : node + 1 < length starts
+  pub low : Precede l (node * 4294967296) (getD starts node 0)
+  pub high : Precede l ((node + 1) * 4294967296) (getD starts (node + 1) 0)
+
+-- so for each node
+pub record Begins (l : List (ℕ × ℕ)) (starts : List ℕ) (nodes : ℕ) : Type 0 where
+  pub room : nodes < length starts
+  pub at : (node : ℕ) → node < nodes + 1 → Precede l (node * 4294967296) (getD starts node 0)

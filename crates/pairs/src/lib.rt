@@ -11,17 +11,23 @@ ghost use Rattle.settle.specs.Settling.{last, readyAt};
 ghost use Rattle.pairs.specs.Pairs.{placeOf};
 ghost use Rattle.pairs.specs.Table.{
   pairsIn,
+  pairAt,
+  keyOf,
   Sorted,
+  Searching,
   Precede,
+  Past,
+  AllPast,
   Most,
-  At,
-  PinAsks,
-  GateAsks,
+  KeyAsks,
+  Reads,
+  Gathers,
+  Ready,
   OutputAsks,
   Asks,
   Kept,
 };
-ghost use Rattle.pairs.specs.Promise.{Tops, pairsAt, Held, Lists, Findable};
+ghost use Rattle.pairs.specs.Promise.{Tops, pairsAt, Held, Lists, Findable, Bounds, Begins};
 
 // Where the pairs begin in a table that is filled from its end, or that they are more than it holds.
 enum Filled {
@@ -42,20 +48,14 @@ fn larger(a: usize, b: usize) -> usize
     if a < b { b } else { a }
 }
 
-// The node of a pair of the table.
-fn node_at(pairs: &[u32], k: usize) -> usize
+// A pair of the table as one number.
+fn key_at(pairs: &[u32], k: usize) -> usize
     requires { ⌜ k < length (now pairs) / 2 ⌝ }
-    ensures { λ r. ⌜ (r ≡ getD (now (pairs .entry)) (k * 2) 0) × (r < 4294967296) ⌝ }
+    ensures { λ r. ⌜ r ≡ keyOf (pairAt (pairsIn (now (pairs .entry))) k) ⌝ }
 {
-    lent::widen(pairs[k * 2])
-}
-
-// The time of a pair of the table.
-fn time_at(pairs: &[u32], k: usize) -> usize
-    requires { ⌜ k < length (now pairs) / 2 ⌝ }
-    ensures { λ r. ⌜ (r ≡ getD (now (pairs .entry)) (k * 2 + 1) 0) × (r < 4294967296) ⌝ }
-{
-    lent::widen(pairs[k * 2 + 1])
+    let node = lent::widen(pairs[k * 2]);
+    let time = lent::widen(pairs[k * 2 + 1]);
+    node * 4294967296 + time
 }
 
 // When the last pin of a gate is ready, if each of its drivers settles at the driver's top.
@@ -94,19 +94,16 @@ pub fn tops(file: &[u8], shape: Shape, tops: &mut [u32])
     }
 }
 
-// How many pairs stand before a key, by halves.
-fn pairs_before(pairs: &[u32], key: usize) -> usize
-    requires { ⌜ Sorted (pairsIn (now pairs)) ⌝ }
+// How many pairs stand before a key, by halves: from `least` to `most` of them.
+fn pairs_before(pairs: &[u32], key: usize, least: usize, most: usize) -> usize
+    requires { ⌜ Sorted (pairsIn (now pairs)) × Searching (pairsIn (now pairs)) key least most ⌝ }
     ensures { λ r. ⌜ Precede (pairsIn (now (pairs .entry))) key r ⌝ }
 {
-    let mut low = 0;
-    let mut high = pairs.len() / 2;
+    let mut low = least;
+    let mut high = most;
     while low < high {
         let middle = low + (high - low) / 2;
-        let node = node_at(pairs, middle);
-        let time = time_at(pairs, middle);
-        let here = node * 4294967296 + time;
-        if here < key {
+        if key_at(pairs, middle) < key {
             low = middle + 1;
             continue;
         }
@@ -115,70 +112,58 @@ fn pairs_before(pairs: &[u32], key: usize) -> usize
     low
 }
 
-// The place of a pair among the first `count` pairs of a table.
-pub fn place(table: &[u32], count: usize, node: usize, time: usize) -> usize
-    requires { ⌜ Findable (now table) count node time ⌝ }
+// Where the pairs of each node begin among the first `count` pairs of a table, and where those of the last node end.
+pub fn starts(table: &[u32], count: usize, nodes: usize, starts: &mut [usize])
+    requires { ⌜ Sorted (pairsIn (take (count * 2) (now table))) × (count * 2 ≤ length (now table))
+        × (nodes < 65536) × (nodes < length (now starts)) ⌝ }
+    ensures { λ _. ⌜ Begins (pairsIn (take (count * 2) (now (table .entry)))) (now (starts .exit)) nodes ⌝ }
+{
+    let mut node = 0;
+    while node <= nodes {
+        starts[node] = pairs_before(&table[..count * 2], node * 4294967296, 0, count);
+        node += 1;
+    }
+}
+
+// The place of a pair among the first `count` pairs of a table, by where its node's pairs begin and end.
+pub fn place(table: &[u32], count: usize, starts: &[usize], node: usize, time: usize) -> usize
+    requires { ⌜ Findable (now table) count node time
+        × Bounds (pairsIn (take (count * 2) (now table))) (now starts) node ⌝ }
     ensures { λ r. ⌜ ((pairs : List (ℕ × ℕ)) → Lists (now (table .entry)) count pairs → r ≡ placeOf node time pairs) ⌝ }
 {
-    pairs_before(&table[..count * 2], node * 4294967296 + time)
+    let low = starts[node];
+    let high = starts[node + 1];
+    pairs_before(&table[..count * 2], node * 4294967296 + time, low, high)
 }
 
-// The largest time below a limit at which a node stands in the table, or 0.
-fn latest(done: &[u32], node: usize, limit: usize) -> usize
-    requires { ⌜ Sorted (pairsIn (now done)) × (node < 65536) × (limit ≤ 4294967296) ⌝ }
-    ensures { λ r. ⌜ Most (At (pairsIn (now (done .entry))) node) limit r ⌝ }
+// How many pairs stand before a key, where the last `passed` are known not to: back from there, one by one.
+fn walk_back(pairs: &[u32], key: usize, passed: usize) -> usize
+    requires { ⌜ Sorted (pairsIn (now pairs)) × Past (pairsIn (now pairs)) key passed ⌝ }
+    ensures { λ r. ⌜ Precede (pairsIn (now (pairs .entry))) key r ⌝ }
 {
-    let k = pairs_before(done, node * 4294967296 + limit);
-    if k == 0 {
-        return 0;
+    let mut r = pairs.len() / 2 - passed;
+    while 0 < r {
+        if key_at(pairs, r - 1) < key {
+            break;
+        }
+        r -= 1;
     }
-    let j = k - 1;
-    if node_at(done, j) == node {
-        return time_at(done, j);
-    }
-    0
+    r
 }
 
-// The largest time below b at which a pin of a node asks for f, or 0.
-fn pin_asks(done: &[u32], node: usize, f: usize, b: usize, driver: usize, delay: usize) -> usize
-    requires { ⌜ Sorted (pairsIn (now done)) × (node < 65536) × (b + delay ≤ 4294967296) ⌝ }
-    ensures { λ r. ⌜ Most (PinAsks (pairsIn (now (done .entry))) node f driver delay) b r ⌝ }
+// The largest time below b at which a reader asks, or 0; `before` pairs stand before the reader's key at b.
+fn reader_asks(done: &[u32], reader: usize, b: usize, before: usize) -> usize
+    requires { ⌜ Sorted (pairsIn (now done)) × Precede (pairsIn (now done)) (reader + b) before ⌝ }
+    ensures { λ r. ⌜ Most (KeyAsks (pairsIn (now (done .entry))) reader) b r ⌝ }
 {
-    if driver != f {
+    if before == 0 {
         return 0;
     }
-    let s = latest(done, node, b + delay);
-    if s <= delay {
+    let last = key_at(done, before - 1);
+    if last <= reader {
         return 0;
     }
-    s - delay
-}
-
-// The largest time below b at which some pin of a node, of those from `first` on, asks for f, or 0.
-fn gate_asks(
-    done: &[u32],
-    file: &[u8],
-    shape: Shape,
-    first: usize,
-    count: usize,
-    node: usize,
-    f: usize,
-    b: usize,
-) -> usize
-    requires { ⌜ Sorted (pairsIn (now done)) × Holds (now file) shape × (first + count ≤ shape .pins)
-        × (node < 65536) × (b < 1000000) ⌝ }
-    ensures { λ r. ⌜ Most (GateAsks (pairsIn (now (done .entry))) (now (file .entry)) shape first count node f) b r ⌝ }
-{
-    let mut best = 0;
-    let mut k = 0;
-    while k < count {
-        let pin = first + k;
-        let driver = netlist::driver_at(file, shape, pin);
-        let delay = netlist::delay_at(file, shape, pin);
-        best = larger(best, pin_asks(done, node, f, b, driver, delay));
-        k += 1;
-    }
-    best
+    last - reader
 }
 
 // The target, where it is below b and f is an output, or 0.
@@ -199,22 +184,96 @@ fn output_asks(file: &[u8], shape: Shape, target: usize, f: usize, b: usize) -> 
     0
 }
 
-// The largest time below b at which f is asked for, by the outputs or by a pair of the table, or 0.
-fn asks(done: &[u32], file: &[u8], shape: Shape, target: usize, f: usize, b: usize) -> usize
-    requires { ⌜ Sorted (pairsIn (now done)) × Holds (now file) shape × (shape .inputs ≤ f)
-        × (f < 65536) × (b < 1000000) ⌝ }
-    ensures { λ r. ⌜ Most (Asks (pairsIn (now (done .entry))) (now (file .entry)) shape target (shape .gates) f) b r ⌝ }
+// The pins of a gate that f drives, as readers after the first `from`, which are those of the gates before it.
+fn gate_readers(
+    file: &[u8],
+    shape: Shape,
+    number: usize,
+    f: usize,
+    readers: &mut [usize],
+    from: usize,
+) -> usize
+    requires { ⌜ Holds (now file) shape × (number < shape .gates) × (f < shape .inputs + number)
+        × Gathers (Reads (now file) shape number f) (now readers) from × (from ≤ number * 8)
+        × (3584 ≤ length (now readers)) ⌝ }
+    ensures { λ r. ⌜ Gathers (Reads (now (file .entry)) shape (number + 1) f) (now (readers .exit)) r
+        × (r ≤ number * 8 + 8) ⌝ }
 {
-    let mut best = output_asks(file, shape, target, f, b);
+    let gate = netlist::gate_at(file, shape, number);
+    let first = gate.first;
+    let count = gate.count;
+    let node = shape.inputs + number;
+    let mut n = from;
+    let mut k = 0;
+    while k < count {
+        let pin = first + k;
+        k += 1;
+        if netlist::driver_at(file, shape, pin) != f {
+            continue;
+        }
+        let delay = netlist::delay_at(file, shape, pin);
+        readers[n] = node * 4294967296 + delay;
+        n += 1;
+    }
+    n
+}
+
+// The readers of f: the pins that it drives, each as the key of its gate's node at its delay.
+fn gather(file: &[u8], shape: Shape, f: usize, readers: &mut [usize]) -> usize
+    requires { ⌜ Holds (now file) shape × (shape .inputs ≤ f) × (f < shape .inputs + shape .gates)
+        × (3584 ≤ length (now readers)) ⌝ }
+    ensures { λ r. ⌜ Gathers (Reads (now (file .entry)) shape (shape .gates) f) (now (readers .exit)) r
+        × (r ≤ 3584) ⌝ }
+{
+    let mut n = 0;
     let mut i = f + 1 - shape.inputs;
     while i < shape.gates {
-        let gate = netlist::gate_at(file, shape, i);
-        let node = shape.inputs + i;
-        best = larger(
-            best,
-            gate_asks(done, file, shape, gate.first, gate.count, node, f, b),
-        );
+        n = gate_readers(file, shape, i, f, readers, n);
         i += 1;
+    }
+    n
+}
+
+// For each reader, how many pairs at the table's end are not before its key at b.
+fn pass(done: &[u32], b: usize, readers: &[usize], count: usize, passed: &mut [usize])
+    requires { ⌜ Sorted (pairsIn (now done)) × (b < 1000000) × (count ≤ length (now readers))
+        × (count ≤ length (now passed)) × ((k : ℕ) → k < count → getD (now readers) k 0 < 10000000000000) ⌝ }
+    ensures { λ _. ⌜ AllPast (pairsIn (now (done .entry))) (now (readers .entry)) (now (passed .exit)) count b ⌝ }
+{
+    let mut k = 0;
+    while k < count {
+        let before = pairs_before(done, readers[k] + b, 0, done.len() / 2);
+        passed[k] = done.len() / 2 - before;
+        k += 1;
+    }
+}
+
+// The largest time below b at which f is asked for, by the outputs or by a pair of the table, or 0.
+fn asks(
+    done: &[u32],
+    file: &[u8],
+    shape: Shape,
+    target: usize,
+    f: usize,
+    b: usize,
+    readers: &[usize],
+    count: usize,
+    passed: &mut [usize],
+) -> usize
+    requires { ⌜ Sorted (pairsIn (now done)) × Holds (now file) shape × (b < 1000000)
+        × Ready (pairsIn (now done)) (now file) shape f b (now readers) (now passed) count ⌝ }
+    ensures { λ r. ⌜ Most (Asks (pairsIn (now (done .entry))) (now (file .entry)) shape target (shape .gates) f) b r
+        × Ready (pairsIn (now (done .entry))) (now (file .entry)) shape f b (now (readers .entry)) (now (passed .exit))
+        count ⌝ }
+{
+    let mut best = output_asks(file, shape, target, f, b);
+    let mut k = 0;
+    while k < count {
+        let reader = readers[k];
+        let before = walk_back(done, reader + b, passed[k]);
+        passed[k] = done.len() / 2 - before;
+        best = larger(best, reader_asks(done, reader, b, before));
+        k += 1;
     }
     best
 }
@@ -230,24 +289,47 @@ fn put_pair(table: &mut [u32], k: usize, node: usize, time: usize)
 }
 
 // Fill the table from its end: the pairs from (f, b) on stand from `at` on. The next is (f, t) with the largest t below
-// b that is asked for; where there is none, the node below f follows, with all its times up to its top.
-fn fill(file: &[u8], shape: Shape, target: usize, tops: &[u32], table: &mut [u32]) -> Filled
+// b that is asked for; where there is none, the node below f follows, with all its times up to its top. The readers of
+// f are gathered once, and since b only falls, what each has passed it need not look at again.
+fn fill(
+    file: &[u8],
+    shape: Shape,
+    target: usize,
+    tops: &[u32],
+    table: &mut [u32],
+    readers: &mut [usize],
+    passed: &mut [usize],
+) -> Filled
     requires { ⌜ Holds (now file) shape × Tops (now file) shape (now tops)
-        × (length (now table) / 2 * 2 ≡ length (now table)) ⌝ }
+        × (length (now table) / 2 * 2 ≡ length (now table)) × (3584 ≤ length (now readers))
+        × (3584 ≤ length (now passed)) ⌝ }
     ensures { λ r. ⌜ Kept (pairsAt (now (file .entry)) shape target) (length (now (table .entry)) / 2)
         (now (table .exit)) r ⌝ }
 {
     let mut at = table.len() / 2;
     let mut f = shape.inputs + shape.gates;
     let mut b = 0;
+    let mut count = 0;
     loop {
-        let t = asks(&table[at * 2..], file, shape, target, f, b);
+        let t = asks(
+            &table[at * 2..],
+            file,
+            shape,
+            target,
+            f,
+            b,
+            readers,
+            count,
+            passed,
+        );
         if t == 0 {
             if f <= shape.inputs {
                 break;
             }
             f -= 1;
             b = lent::widen(tops[f]) + 1;
+            count = gather(file, shape, f, readers);
+            pass(&table[at * 2..], b, readers, count, passed);
             continue;
         }
         if at == 0 {
@@ -289,7 +371,17 @@ pub fn table(file: &[u8], shape: Shape, target: usize, tops: &[u32], table: &mut
         (now (table .exit)) r ⌝ }
 {
     let room = holds(table.len());
-    let got = fill(file, shape, target, tops, &mut table[..room * 2]);
+    let mut readers = [0usize; 3584];
+    let mut passed = [0usize; 3584];
+    let got = fill(
+        file,
+        shape,
+        target,
+        tops,
+        &mut table[..room * 2],
+        &mut readers,
+        &mut passed,
+    );
     match got {
         Filled::From(at) => {
             let n = room - at;

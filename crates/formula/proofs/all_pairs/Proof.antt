@@ -13,18 +13,18 @@ use Rattle.formula.proofs.all_pairs.Statement.{statement}
 use Rattle.formula.proofs.all_pairs.Tie as tie
 
 abbrev Inv-loop : tie.InvT-loop
-Inv-loop file shape tops table formula₀ nodes to₀ k₀ formula to k =
+Inv-loop file shape tops table starts formula₀ nodes to₀ k₀ formula to k =
     (k ≤ length table / 2) × Emitting 1282 (pairRun file shape tops table) (pairsIn table) (drop k (pairsIn table)) k
     formula₀ to₀ formula to
 
 abbrev μ-loop : tie.MeasureT-loop
-μ-loop file shape tops table formula₀ nodes to₀ k₀ formula to k = length table / 2 - k
+μ-loop file shape tops table starts formula₀ nodes to₀ k₀ formula to k = length table / 2 - k
 
 add-nodes : tie.Need-add-nodes Inv-loop μ-loop
-add-nodes c = omega (arith, c .before .before .before .before .pre .1 .nodes-few)
+add-nodes c = omega (arith, c .before .before .before .before .before .pre .1 .nodes-few)
 
 loop-holds : tie.Need-loop-holds Inv-loop μ-loop
-loop-holds c = (omega arith, E.emitting-starts _ _ _ _ _ (c .before .before .before .before .pre .3 .fewer))
+loop-holds c = (omega arith, E.emitting-starts _ _ _ _ _ (c .before .before .before .before .before .pre .3 .fewer))
 
 mul-widen : tie.Need-mul-widen Inv-loop μ-loop
 mul-widen c = search needs
@@ -58,8 +58,9 @@ sub-gate-at c =
     let widen = c .before .before .before .widen in
     let loop-test = c .before .before .before .before .before .loop-test in
     let loop = c .before .before .before .before .before .before .loop in
-    let args = c .before .before .before .before .before .before .before .before .before .before .before .args in
-    let pre = c .before .before .before .before .before .before .before .before .before .before .before .pre in
+    let args = c .before .before .before .before .before .before .before .before .before .before .before .before .args
+    in
+    let pre = c .before .before .before .before .before .before .before .before .before .before .before .before .pre in
     let s = C.stands-here (args .file .now) (args .shape) (args .tops .now) (args .table .now) (loop .k) (widen .result)
     (c .before .widen2 .result) (pre .2) (loop-test .taken) (widen .ensures .0) (c .before .widen2 .ensures .0) in omega
     (arith, s .low)
@@ -69,20 +70,23 @@ gate-at-requires c κs =
     let widen = c .before .before .before .widen in
     let loop-test = c .before .before .before .before .before .loop-test in
     let loop = c .before .before .before .before .before .before .loop in
-    let args = c .before .before .before .before .before .before .before .before .before .before .before .args in
-    let pre = c .before .before .before .before .before .before .before .before .before .before .before .pre in
+    let args = c .before .before .before .before .before .before .before .before .before .before .before .before .args
+    in
+    let pre = c .before .before .before .before .before .before .before .before .before .before .before .before .pre in
     let s = C.stands-here (args .file .now) (args .shape) (args .tops .now) (args .table .now) (loop .k) (widen .result)
     (c .before .widen2 .result) (pre .2) (loop-test .taken) (widen .ensures .0) (c .before .widen2 .ensures .0) in
     (pre .0 .tables, omega (arith, s .low, s .high))
 
 add-pair-clauses : tie.Need-add-pair-clauses Inv-loop μ-loop
 add-pair-clauses c =
-    let pre = c .before .before .before .before .before .before .before .before .before .before .before .before .pre in
+    let pre = c .before .before .before .before .before .before .before .before .before .before .before .before .before
+    .pre in
     omega (arith, pre .1 .nodes-few, pre .1 .pairs-few)
 
 add-pair-clauses-2 : tie.Need-add-pair-clauses-2 Inv-loop μ-loop
 add-pair-clauses-2 c =
-    let pre = c .before .before .before .before .before .before .before .before .before .before .before .before .pre in
+    let pre = c .before .before .before .before .before .before .before .before .before .before .before .before .before
+    .pre in
     omega (arith, pre .1 .nodes-few, pre .1 .pairs-few)
 
 pair-clauses-requires : tie.Need-pair-clauses-requires Inv-loop μ-loop
@@ -92,9 +96,9 @@ pair-clauses-requires c κs =
     let loop-test = c .before .before .before .before .before .before .before .loop-test in
     let loop = c .before .before .before .before .before .before .before .before .loop in
     let args = c .before .before .before .before .before .before .before .before .before .before .before .before .before
-    .args in
+    .before .args in
     let pre = c .before .before .before .before .before .before .before .before .before .before .before .before .before
-    .pre in
+    .before .pre in
     let s = C.stands-here (args .file .now) (args .shape) (args .tops .now) (args .table .now) (loop .k) (widen .result)
     (widen2 .result) (pre .2) (loop-test .taken) (widen .ensures .0) (widen2 .ensures .0) in
     let few = E.emitting-few (loop .inv .1) in
@@ -107,10 +111,15 @@ pair-clauses-requires c κs =
           (c .before .gate-at .ensures .0),
       omega arith,
       record { place = omega arith; fewer = few .1 },
+      pre .4,
     )
 
 add-k : tie.Need-add-k Inv-loop μ-loop
-add-k c = search needs
+add-k c =
+    let loop-test = c .before .before .before .before .before .before .before .before .before .loop-test in
+    let pre = c .before .before .before .before .before .before .before .before .before .before .before .before .before
+    .before .before .before .pre in
+    omega (arith, loop-test .taken, pre .1 .pairs-few)
 
 loop-less : tie.Need-loop-less Inv-loop μ-loop
 loop-less c = search needs
@@ -123,9 +132,9 @@ loop-again c =
     let loop-test = c .before .before .before .before .before .before .before .before .before .loop-test in
     let loop = c .before .before .before .before .before .before .before .before .before .before .loop in
     let args = c .before .before .before .before .before .before .before .before .before .before .before .before .before
-    .before .before .args in
+    .before .before .before .args in
     let pre = c .before .before .before .before .before .before .before .before .before .before .before .before .before
-    .before .before .pre in
+    .before .before .before .pre in
     let s = C.stands-here (args .file .now) (args .shape) (args .tops .now) (args .table .now) (loop .k) (widen .result)
     (widen2 .result) (pre .2) (loop-test .taken) (widen .ensures .0) (widen2 .ensures .0) in (
       omega arith,
@@ -142,8 +151,8 @@ same-length c = E.emitting-length (c .before .loop .inv .1)
 
 returns : tie.Need-returns Inv-loop μ-loop
 returns c =
-    let args = c .before .before .before .before .before .before .args in
-    let pre = c .before .before .before .before .before .before .pre in
+    let args = c .before .before .before .before .before .before .before .args in
+    let pre = c .before .before .before .before .before .before .before .pre in
     let pairs = pre .1 .pairs-few in
     E.emits-as 90000000 (E.emitting-ends (c .before .loop .inv .1)
     (C.pairs-done (args .table .now) (c .before .loop .k) (c .loop-test .left))) refl (omega arith)

@@ -13,12 +13,12 @@ use Rattle.formula.proofs.control_clauses.Statement.{statement}
 use Rattle.formula.proofs.control_clauses.Tie as tie
 
 abbrev Inv-loop : tie.InvT-loop
-Inv-loop file shape first count tops table c pair t formula₀ negated to₀ i₀ formula to i =
+Inv-loop file shape first count tops table starts c pair t formula₀ negated to₀ i₀ formula to i =
     (i ≤ count) × Emitting 4 (pinControl shape tops table c pair t) (pinsFrom file shape first count)
     (pinsFrom file shape (first + i) (count - i)) i formula₀ to₀ formula to
 
 abbrev μ-loop : tie.MeasureT-loop
-μ-loop file shape first count tops table c pair t formula₀ negated to₀ i₀ formula to i = count - i
+μ-loop file shape first count tops table starts c pair t formula₀ negated to₀ i₀ formula to i = count - i
 
 mul-negated : tie.Need-mul-negated Inv-loop μ-loop
 mul-negated c = search needs
@@ -28,8 +28,8 @@ add-negated c = search needs
 
 loop-holds : tie.Need-loop-holds Inv-loop μ-loop
 loop-holds c =
-    let args = c .before .before .before .args in
-    let pre = c .before .before .before .pre in (
+    let args = c .before .before .before .before .args in
+    let pre = c .before .before .before .before .pre in (
       omega arith,
       rw (← P.pins-all (args .file .now) (args .shape) (args .first) (args .count))
           (E.emitting-starts _ _ _ _ _ (pre .4 .fewer)),
@@ -40,12 +40,12 @@ add-pin c = search needs
 
 driver-at-requires : tie.Need-driver-at-requires Inv-loop μ-loop
 driver-at-requires c κs =
-    let pre = c .before .before .before .before .before .pre in
+    let pre = c .before .before .before .before .before .before .pre in
     let w = pre .2 .within in (pre .0, omega arith)
 
 delay-at-requires : tie.Need-delay-at-requires Inv-loop μ-loop
 delay-at-requires c κs =
-    let pre = c .before .before .before .before .before .before .pre in
+    let pre = c .before .before .before .before .before .before .before .pre in
     let w = pre .2 .within in (pre .0, omega arith)
 
 less-requires : tie.Need-less-requires Inv-loop μ-loop
@@ -55,11 +55,12 @@ late-code-requires : tie.Need-late-code-requires Inv-loop μ-loop
 late-code-requires c κs =
     let driver-at = c .before .before .driver-at in
     let loop = c .before .before .before .before .loop in
-    let args = c .before .before .before .before .before .before .before .before .args in
-    let pre = c .before .before .before .before .before .before .before .before .pre in (
+    let args = c .before .before .before .before .before .before .before .before .before .args in
+    let pre = c .before .before .before .before .before .before .before .before .before .pre in (
       pre .1,
       rw (c .less .ensures, c .before .delay-at .ensures .0, driver-at .ensures .0)
           (pre .2 .asks (args .first + loop .i) (omega arith) (omega arith)),
+      pre .5,
     )
 
 node-code-requires : tie.Need-node-code-requires Inv-loop μ-loop
@@ -69,7 +70,7 @@ control-clause-requires : tie.Need-control-clause-requires Inv-loop μ-loop
 control-clause-requires c κs =
     let late-code = c .before .before .late-code in
     let loop = c .before .before .before .before .before .before .before .loop in
-    let pre = c .before .before .before .before .before .before .before .before .before .before .before .pre in
+    let pre = c .before .before .before .before .before .before .before .before .before .before .before .before .pre in
     let few = E.emitting-few (loop .inv .1) in
     let count = pre .2 .few in
     let room = pre .4 .place in
@@ -97,7 +98,7 @@ loop-again c =
     let driver-at = c .before .before .before .before .before .before .before .driver-at in
     let loop = c .before .before .before .before .before .before .before .before .before .loop in
     let args = c .before .before .before .before .before .before .before .before .before .before .before .before .before
-    .args in (
+    .before .args in (
       omega arith,
       E.emitting-more (pinAt (args .file .now) (args .shape) (args .first + loop .i)) (loop .inv .1)
           (P.pins-next _ _ _ _ _ (omega arith))
@@ -114,7 +115,7 @@ same-length c = E.emitting-length (c .before .loop .inv .1)
 
 returns : tie.Need-returns Inv-loop μ-loop
 returns c =
-    let pre = c .before .before .before .before .before .pre in
+    let pre = c .before .before .before .before .before .before .pre in
     let few = pre .2 .few in
     E.emits-as 1024 (E.emitting-ends (c .before .loop .inv .1) (P.pins-none _ _ _ _ _ (c .loop-test .left))) refl
     (omega arith)

@@ -13,13 +13,13 @@ use Rattle.formula.proofs.late_clause.Tie as tie
 
 driver-sure-requires : tie.Need-driver-sure-requires
 driver-sure-requires c κs =
-    let pre = c .before .before .before .pre in
+    let pre = c .before .before .before .before .pre in
     (pre .0, pre .2 .within, λ pin l h. pre .2 .asks pin l h .node-has)
 
 returns : tie.Need-returns
 returns c =
-    let args = c .before .before .before .before .before .args in
-    let pre = c .before .before .before .before .before .pre in
+    let args = c .before .before .before .before .before .before .args in
+    let pre = c .before .before .before .before .before .before .pre in
     E.emits-as 258 (E.emits-none _ _ (pre .4 .fewer))
     (L.clause-out-after (pinLate (args .shape) (args .tops .now) (args .table .now) (args .t))
     (λ p. sureAt (args .shape .inputs) (topIn (args .tops .now)) (p .driver) (args .t - p .delay))
@@ -53,7 +53,7 @@ returns-2 c =
     let if1 = c .before .before .before .before .before .before .before .before .before .if1 in
     let driver-sure = c .before .before .before .before .before .before .before .before .before .before .driver-sure in
     let args = c .before .before .before .before .before .before .before .before .before .before .before .before .before
-    .before .args in
+    .before .before .args in
     E.emits-as 258
     (E.emits-then (E.emits-then (put-literal .ensures) (late-literals .ensures)) (c .before .put-end .ensures))
     (L.clause-in-after (pinLate (args .shape) (args .tops .now) (args .table .now) (args .t))

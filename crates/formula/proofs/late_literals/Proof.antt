@@ -13,17 +13,17 @@ use Rattle.formula.proofs.late_literals.Statement.{statement}
 use Rattle.formula.proofs.late_literals.Tie as tie
 
 abbrev Inv-loop : tie.InvT-loop
-Inv-loop file shape first count tops table t formula₀ to₀ i₀ formula to i =
+Inv-loop file shape first count tops table starts t formula₀ to₀ i₀ formula to i =
     (i ≤ count) × Emitting 1 (λ p. partRun (pinLate shape tops table t p)) (pinsFrom file shape first count)
     (pinsFrom file shape (first + i) (count - i)) i formula₀ to₀ formula to
 
 abbrev μ-loop : tie.MeasureT-loop
-μ-loop file shape first count tops table t formula₀ to₀ i₀ formula to i = count - i
+μ-loop file shape first count tops table starts t formula₀ to₀ i₀ formula to i = count - i
 
 loop-holds : tie.Need-loop-holds Inv-loop μ-loop
 loop-holds c =
-    let args = c .before .before .before .args in
-    let pre = c .before .before .before .pre in (
+    let args = c .before .before .before .before .args in
+    let pre = c .before .before .before .before .pre in (
       omega arith,
       rw (← P.pins-all (args .file .now) (args .shape) (args .first) (args .count))
           (E.emitting-starts _ _ _ _ _ (pre .3 .fewer)),
@@ -34,12 +34,12 @@ add-pin c = search needs
 
 driver-at-requires : tie.Need-driver-at-requires Inv-loop μ-loop
 driver-at-requires c κs =
-    let pre = c .before .before .before .before .before .pre in
+    let pre = c .before .before .before .before .before .before .pre in
     let w = pre .2 .within in (pre .0, omega arith)
 
 delay-at-requires : tie.Need-delay-at-requires Inv-loop μ-loop
 delay-at-requires c κs =
-    let pre = c .before .before .before .before .before .before .pre in
+    let pre = c .before .before .before .before .before .before .before .pre in
     let w = pre .2 .within in (pre .0, omega arith)
 
 less-requires : tie.Need-less-requires Inv-loop μ-loop
@@ -49,18 +49,21 @@ late-code-requires : tie.Need-late-code-requires Inv-loop μ-loop
 late-code-requires c κs =
     let driver-at = c .before .before .driver-at in
     let loop = c .before .before .before .before .loop in
-    let args = c .before .before .before .before .before .before .before .before .args in
-    let pre = c .before .before .before .before .before .before .before .before .pre in (
+    let args = c .before .before .before .before .before .before .before .before .before .args in
+    let pre = c .before .before .before .before .before .before .before .before .before .pre in (
       pre .1,
       rw (c .less .ensures, c .before .delay-at .ensures .0, driver-at .ensures .0)
           (pre .2 .asks (args .first + loop .i) (omega arith) (omega arith)),
+      pre .4,
     )
 
 put-part-requires : tie.Need-put-part-requires Inv-loop μ-loop
 put-part-requires c κs =
     let few = E.emitting-few (c .before .before .before .before .before .before .loop .inv .1) in
-    let count = c .before .before .before .before .before .before .before .before .before .before .pre .2 .few in
-    let room = c .before .before .before .before .before .before .before .before .before .before .pre .3 .place in
+    let count = c .before .before .before .before .before .before .before .before .before .before .before .pre .2 .few
+    in
+    let room = c .before .before .before .before .before .before .before .before .before .before .before .pre .3 .place
+    in
     (record { place = omega arith; fewer = few .1 }, c .before .late-code .ensures .1)
 
 add-i : tie.Need-add-i Inv-loop μ-loop
@@ -77,7 +80,8 @@ loop-again c =
     let delay-at = c .before .before .before .before .before .delay-at in
     let driver-at = c .before .before .before .before .before .before .driver-at in
     let loop = c .before .before .before .before .before .before .before .before .loop in
-    let args = c .before .before .before .before .before .before .before .before .before .before .before .before .args
+    let args = c .before .before .before .before .before .before .before .before .before .before .before .before .before
+    .args
     in (
       omega arith,
       E.emitting-more (pinAt (args .file .now) (args .shape) (args .first + loop .i)) (loop .inv .1)
@@ -95,7 +99,7 @@ same-length c = E.emitting-length (c .before .loop .inv .1)
 
 returns : tie.Need-returns Inv-loop μ-loop
 returns c =
-    let pre = c .before .before .before .before .before .pre in
+    let pre = c .before .before .before .before .before .before .pre in
     let few = pre .2 .few in
     E.emits-as 256 (E.emitting-ends (c .before .loop .inv .1) (P.pins-none _ _ _ _ _ (c .loop-test .left))) refl
     (omega arith)

@@ -15,8 +15,8 @@ output-sure-requires c κs = search needs
 
 returns : tie.Need-returns
 returns c =
-    let args = c .before .before .before .before .before .args in
-    let pre = c .before .before .before .before .before .pre in
+    let args = c .before .before .before .before .before .before .args in
+    let pre = c .before .before .before .before .before .before .pre in
     E.emits-as 65 (E.emits-none _ _ (pre .3 .fewer))
     (L.clause-out (λ o. lateIn (args .shape) (args .tops .now) (args .table .now) o (args .target))
     (λ o. sureAt (args .shape .inputs) (topIn (args .tops .now)) o (args .target))
@@ -38,7 +38,8 @@ returns-2 c =
     let output-literals = c .before .before .before .before .output-literals in
     let if1 = c .before .before .before .before .before .before .if1 in
     let output-sure = c .before .before .before .before .before .before .before .output-sure in
-    let args = c .before .before .before .before .before .before .before .before .before .before .before .args in
+    let args = c .before .before .before .before .before .before .before .before .before .before .before .before .args
+    in
     E.emits-as 65
     (E.emits-then (output-literals .ensures) (c .before .put-end .ensures))
     (L.clause-in (λ o. lateIn (args .shape) (args .tops .now) (args .table .now) o (args .target))

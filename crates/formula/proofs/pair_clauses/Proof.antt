@@ -2,6 +2,7 @@
 use mathlib.Core.Path.{refl}
 use native.Mathlib.Omega.{arith}
 use borrow.Author.Needs.{needs}
+use Rattle.formula.specs.Emission.{Fits}
 use Rattle.formula.proofs.Emission as E
 use Rattle.formula.proofs.pair_clauses.Statement.{statement}
 use Rattle.formula.proofs.pair_clauses.Tie as tie
@@ -13,7 +14,13 @@ enum-known-kind : tie.Need-enum-known-kind
 enum-known-kind c = search needs
 
 control-clauses-requires : tie.Need-control-clauses-requires
-control-clauses-requires c κs = search needs
+control-clauses-requires c κs =
+    let late-clause = c .before .before .before .before .before .late-clause in
+    let pre = c .before .before .before .before .before .before .before .before .before .before .before .pre in
+    let fits : Fits 1024 (late-clause .result) =
+    record { place = omega (arith, late-clause .ensures .few, pre .4 .place); fewer = late-clause .ensures .fewer }
+    in
+    (pre .0, pre .1, pre .2, pre .3, fits, pre .5)
 
 same-length : tie.Need-same-length
 same-length c = search needs

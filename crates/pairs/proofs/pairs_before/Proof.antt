@@ -1,22 +1,23 @@
 -- `pairs::pairs_before` meets its contract: the search by halves, whose gap falls at each turn. Assumes nothing.
-use mathlib.Core.Path.{sym}
 use Prim.Native.Nat.{_-_, _/_, _≤_}
 use native.Mathlib.Omega.{arith}
 use lib.ListN.{length}
-use Rattle.pairs.specs.Table.{pairsIn}
-use Rattle.pairs.proofs.Flat.{pairs-length, key-here}
-use Rattle.pairs.proofs.Search.{Searching, searching-starts, searching-up, searching-down, searching-ends}
+use Rattle.pairs.specs.Table.{pairsIn, Searching}
+use Rattle.pairs.proofs.Flat.{pairs-length}
+use Rattle.pairs.proofs.Search.{searching-up, searching-down, searching-ends}
 use Rattle.pairs.proofs.pairs_before.Statement.{statement}
 use Rattle.pairs.proofs.pairs_before.Tie as tie
 
 abbrev Inv-loop : tie.InvT-loop
-Inv-loop pairs key low₀ high₀ low high = (high ≤ length pairs / 2) × Searching (pairsIn pairs) key low high
+Inv-loop pairs key least most low₀ high₀ low high = (high ≤ length pairs / 2) × Searching (pairsIn pairs) key low high
 
 abbrev μ-loop : tie.MeasureT-loop
-μ-loop pairs key low₀ high₀ low high = high - low
+μ-loop pairs key least most low₀ high₀ low high = high - low
 
 loop-holds : tie.Need-loop-holds Inv-loop μ-loop
-loop-holds c = (omega arith, searching-starts _ _ _ (sym (pairs-length _)))
+loop-holds c =
+    let start = c .before in
+    (omega (arith, start .pre .1 .within, pairs-length (start .args .pairs .now)), start .pre .1)
 
 sub-middle : tie.Need-sub-middle Inv-loop μ-loop
 sub-middle c = omega arith
@@ -24,17 +25,8 @@ sub-middle c = omega arith
 add-middle : tie.Need-add-middle Inv-loop μ-loop
 add-middle c = omega arith
 
-node-at-requires : tie.Need-node-at-requires Inv-loop μ-loop
-node-at-requires c κs = omega arith
-
-time-at-requires : tie.Need-time-at-requires Inv-loop μ-loop
-time-at-requires c κs = omega arith
-
-mul-here : tie.Need-mul-here Inv-loop μ-loop
-mul-here c = omega arith
-
-add-here : tie.Need-add-here Inv-loop μ-loop
-add-here c = omega arith
+key-at-requires : tie.Need-key-at-requires Inv-loop μ-loop
+key-at-requires c κs = omega arith
 
 add-low : tie.Need-add-low Inv-loop μ-loop
 add-low c = omega arith
@@ -44,11 +36,11 @@ loop-less c = omega arith
 
 loop-again : tie.Need-loop-again Inv-loop μ-loop
 loop-again c =
-    let turn = c .before .before .before .before in
+    let turn = c .before .before .before in
     let start = turn .before .before in (
       omega arith,
-      searching-up _ _ (start .pre) (turn .loop .inv .1) (omega arith) (omega arith)
-          (key-here _ _ _ _ (omega arith) (c .before .before .node-at .ensures .0) (c .before .time-at .ensures .0))
+      searching-up _ _ (start .pre .0) (turn .loop .inv .1) (omega arith) (omega arith)
+          (c .before .key-at .ensures)
           (c .if1 .taken),
     )
 
@@ -57,11 +49,11 @@ loop-less-2 c = omega arith
 
 loop-again-2 : tie.Need-loop-again-2 Inv-loop μ-loop
 loop-again-2 c =
-    let turn = c .before .before .before .before in
+    let turn = c .before .before .before in
     let start = turn .before .before in (
       omega arith,
-      searching-down _ _ (start .pre) (turn .loop .inv .1) (omega arith) (omega arith)
-          (key-here _ _ _ _ (omega arith) (c .before .before .node-at .ensures .0) (c .before .time-at .ensures .0))
+      searching-down _ _ (start .pre .0) (turn .loop .inv .1) (omega arith) (omega arith)
+          (c .before .key-at .ensures)
           (c .if1 .left),
     )
 
@@ -77,10 +69,7 @@ pairs-before-spec =
     loop-holds
     sub-middle
     add-middle
-    node-at-requires
-    time-at-requires
-    mul-here
-    add-here
+    key-at-requires
     add-low
     loop-less
     loop-again

@@ -17,12 +17,13 @@ lent c = length-take-le _ _ (omega arith)
 
 -- where the pairs begin, and how many they are
 room : (c : tie.After-known-told) →
-    let start = c .before .before .before .before .before .before .before .before .before .before .before in
+    let sized = c .before .before .before .before .before .before .before .before .before .before .before in
+    let start = sized .before .before .before .before in
     c .before .got .given .0 .0 + length (pairsAt (start .args .file .now) (start .args .shape) (start .args .target))
-    ≡ c .before .before .before .before .before .before .before .holds .result
+    ≡ sized .holds .result
 room c =
-    let done = c .before .before .before .before .before in
-    let sized = done .before .before in
+    let done = c .before .before .before .before .before .before .before in
+    let sized = done .before .before .before .before in
     let start = sized .before .before .before .before in
     filled-from _ (start .args .table .now) _ _ _ (sized .holds .ensures) (done .fill .ensures) _
     (c .before .got .given .1)
@@ -39,10 +40,16 @@ slice-relend-prefix-fill c = search needs
 slice-aggregate-fill : tie.Need-slice-aggregate-fill
 slice-aggregate-fill c = sym (lent (c .before))
 
+slice-aggregate-fill-2 : tie.Need-slice-aggregate-fill-2
+slice-aggregate-fill-2 c = search needs
+
+slice-aggregate-fill-3 : tie.Need-slice-aggregate-fill-3
+slice-aggregate-fill-3 c = search needs
+
 fill-requires : tie.Need-fill-requires
 fill-requires c κs =
-    let start = c .before .before .before .before .before in
-    (start .pre .0, start .pre .1, omega (arith, lent (c .before)))
+    let start = c .before .before .before .before .before .before .before in
+    (start .pre .0, start .pre .1, omega (arith, lent (c .before .before .before)), search needs, search needs)
 
 enum-known-got : tie.Need-enum-known-got
 enum-known-got c = search needs
@@ -58,9 +65,9 @@ mul-move-down-2 c = search needs
 
 move-down-requires : tie.Need-move-down-requires
 move-down-requires c κs =
-    let done = c .before .before .before .before .before .before in
-    let q = c .before .before .before .before .before .table .given in
-    let r = done .fill .kept in
+    let done = c .before .before .before .before .before .before .before .before in
+    let q = c .before .before .before .before .before .before .before .table .given in
+    let r = done .fill .kept .1 .1 .1 .1 .0 in
     omega (arith, room (c .before))
 
 mul-zero-rest-u32 : tie.Need-mul-zero-rest-u32
@@ -82,13 +89,13 @@ returns : tie.Need-returns
 returns c =
     let moved = c .before .before .before .before .before .before in
     let got = c .before .before .before .before .before .before .before .before .before in
-    let done = got .before .before .before .before in
-    let sized = done .before .before in
+    let done = got .before .before .before .before .before .before in
+    let sized = done .before .before .before .before in
     let start = sized .before .before .before .before in
     let q = c .before .before .before .before .before .table2 .given in
     let r = moved .move-down .kept in
     let e = got .got .given .1 in
-    let k = done .fill .kept in
+    let k = done .fill .kept .1 .1 .1 .1 .0 in
     table-held _ (start .args .table .now) _ _ _ (sized .holds .ensures) (done .fill .ensures) _ _ _ e (omega arith)
     (moved .move-down .ensures) (omega arith) (c .before .before .zero-rest-u32 .ensures)
 
@@ -97,10 +104,10 @@ same-length-2 c = search needs
 
 returns-2 : tie.Need-returns-2
 returns-2 c =
-    let done = c .before .before .before .before .before .before .before .before in
-    let sized = done .before .before in
+    let done = c .before .before .before .before .before .before .before .before .before .before in
+    let sized = done .before .before .before .before in
     let start = sized .before .before .before .before in
-    let k = done .fill .kept in
+    let k = done .fill .kept .1 .1 .1 .1 .0 in
     table-full _ (start .args .table .now) _ _ _ (sized .holds .ensures) (done .fill .ensures) _
     (c .before .before .before .before .enum-told .given .1)
     (omega arith) (c .before .before .zero-rest-u322 .ensures)
@@ -113,6 +120,8 @@ table-spec =
     mul-fill
     slice-relend-prefix-fill
     slice-aggregate-fill
+    slice-aggregate-fill-2
+    slice-aggregate-fill-3
     fill-requires
     enum-known-got
     sub-n
