@@ -20,9 +20,9 @@ use Rattle.refusal.specs.declared.Refusal.the-variants.{
   Witness,
 }
 use Rattle.refusal.specs.Table.{numberOf}
-use Rattle.certificate.specs.declared.Judged.{Judged}
-use Rattle.certificate.specs.declared.Judged.the-variants.{Accepted, Refused}
-use Rattle.buzzlumen.specs.Answers.{judgedOf}
+use Rattle.refusal.specs.declared.Checked.{Checked}
+use Rattle.refusal.specs.declared.Checked.the-variants.{Passes, Refused}
+use Rattle.buzzlumen.specs.Answers.{checkedOf}
 
 -- a refusal's number is not 0
 numbered : (refusal : Refusal) → numberOf refusal ≡ 0 → ⊥
@@ -43,6 +43,6 @@ numbered (Step n) e = omega arith
 numbered (Witness n) e = omega arith
 
 -- the answer whose number is 0
-pub only-accepted : (answer : Judged) → judgedOf answer .number ≡ 0 → answer ≡ Accepted
-only-accepted Accepted e = refl
+pub only-accepted : (answer : Checked) → checkedOf answer .number ≡ 0 → answer ≡ Passes
+only-accepted Passes e = refl
 only-accepted (Refused refusal) e = absurd (numbered refusal e)

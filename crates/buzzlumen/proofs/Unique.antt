@@ -1,15 +1,33 @@
--- The exported promises that are no equations leave one answer and one content all the same: what a check's numbers
--- are, and a certificate call's with all five slices. Laws: says-unique, certifies-unique. Assumes nothing.
+-- Each exported promise leaves one answer and one content of each lent slice. Laws: evaluates-unique, builds-unique,
+-- says-unique, certifies-unique. Assumes nothing.
 use mathlib.Core.Path.{_≡_, sym, ap, _∙_}
 use mathlib.Core.List.{List}
 use Prim.Native.Nat.{ℕ}
 use lib.IntN.{ℤ}
+use Rattle.settle.specs.Promise.{Evaluation}
+use Rattle.formula.specs.Promise.{Building}
 use Rattle.refute.specs.Promise.{Checks}
 use Rattle.refute.proofs.Unique.{checks-unique}
 use Rattle.certificate.specs.Promise.{Rooms, Judgement, leaving}
 use Rattle.certificate.proofs.Unique.{judges-unique}
-use Rattle.buzzlumen.specs.Answers.{checkedOf, judgedOf, Says, Certifies}
+use Rattle.buzzlumen.specs.Answers.{checkedOf, Evaluates, Builds, Says, Certifies}
+use Rattle.buzzlumen.specs.declared.Evaluated.{Evaluated}
+use Rattle.buzzlumen.specs.declared.Formed.{Formed}
 use Rattle.buzzlumen.specs.declared.Answer.{Answer}
+
+-- one answer of an evaluation, and one content of each slice
+pub evaluates-unique : {promised : Evaluation} {a b : Evaluated} {values times values′ times′ : List ℕ} →
+    Evaluates promised a values times → Evaluates promised b values′ times′ →
+    (a ≡ b) × (values ≡ values′) × (times ≡ times′)
+evaluates-unique p q =
+    (p .numbers-are ∙ sym (q .numbers-are), p .values-are ∙ sym (q .values-are), p .times-are ∙ sym (q .times-are))
+
+-- of a building call
+pub builds-unique : {promised : Building} {a b : Formed} {pairs pairs′ : List ℕ} {formula formula′ : List ℤ} →
+    Builds promised a pairs formula → Builds promised b pairs′ formula′ →
+    (a ≡ b) × (pairs ≡ pairs′) × (formula ≡ formula′)
+builds-unique p q =
+    (p .numbers-are ∙ sym (q .numbers-are), p .pairs-are ∙ sym (q .pairs-are), p .formula-is ∙ sym (q .formula-is))
 
 -- one answer of a check
 pub says-unique : (variables : ℕ) (formula refutation : List ℤ) (room : ℕ) {a b : Answer} →
@@ -37,7 +55,7 @@ module _ (file : List ℕ) (delay : ℕ) (vector : List ℕ) (refutation : List 
       × (formula ≡ formula′)
       × (propagation ≡ propagation′)
   certifies-unique = (
-    p .is ∙ ap (λ (j : Judgement). judgedOf (j .answer)) one ∙ sym (q .is),
+    p .is ∙ ap (λ (j : Judgement). checkedOf (j .answer)) one ∙ sym (q .is),
     ap (λ (j : Judgement). j .values) one,
     ap (λ (j : Judgement). j .times) one,
     ap (λ (j : Judgement). j .pairs) one,

@@ -1,8 +1,7 @@
 // The library for a C host: four functions on numbers and slices, each a call of the library and its answer as a
 // struct of numbers. include/buzzlumen.h declares them. Assumes nothing.
-use certificate::Judged;
 use formula::Built;
-use refute::Checked;
+use refusal::Checked;
 use settle::Settled;
 ghost use mathlib.Core.Path.{_≡_};
 ghost use lib.ListN.{length, replicate};
@@ -14,8 +13,9 @@ ghost use Rattle.buzzlumen.specs.Answers.{
   evaluatedOf,
   formedOf,
   checkedOf,
-  judgedOf,
   Small,
+  Evaluates,
+  Builds,
   Says,
   Certifies,
 };
@@ -64,7 +64,7 @@ fn numbers_of_settled(answer: Settled) -> Evaluated
     }
 }
 
-// The numbers of a check's answer.
+// The numbers of the answer of a check or of a certificate call.
 fn numbers_of_checked(answer: Checked) -> Answer
     ensures { λ r. ⌜ r ≡ checkedOf answer ⌝ }
 {
@@ -105,22 +105,6 @@ fn numbers_of_built(answer: Built) -> Formed
     }
 }
 
-// The numbers of a certificate call's answer.
-fn numbers_of_judged(answer: Judged) -> Answer
-    ensures { λ r. ⌜ r ≡ judgedOf answer ⌝ }
-{
-    match answer {
-        Judged::Accepted => Answer {
-            number: 0,
-            place: 0,
-        },
-        Judged::Refused(refusal) => Answer {
-            number: refusal::number(refusal),
-            place: refusal::place(refusal) as u64,
-        },
-    }
-}
-
 // Values and times of all nodes under a vector.
 #[no_mangle]
 pub extern "C" fn buzzlumen_evaluate(
@@ -130,16 +114,8 @@ pub extern "C" fn buzzlumen_evaluate(
     times: &mut [u32],
 ) -> Evaluated
     ensures { λ r. ⌜
-        r ≡ evaluatedOf (evaluation (now (netlist .entry)) (now (vector .entry)) (length (now (values .entry)))
-        (length (now (times .entry))) .answer)
-        ⌝ }
-    ensures { λ _. ⌜
-        now (values .exit) ≡ evaluation (now (netlist .entry)) (now (vector .entry)) (length (now (values .entry)))
-        (length (now (times .entry))) .values
-        ⌝ }
-    ensures { λ _. ⌜
-        now (times .exit) ≡ evaluation (now (netlist .entry)) (now (vector .entry)) (length (now (values .entry)))
-        (length (now (times .entry))) .times
+        Evaluates (evaluation (now (netlist .entry)) (now (vector .entry)) (length (now (values .entry)))
+        (length (now (times .entry)))) r (now (values .exit)) (now (times .exit))
         ⌝ }
 {
     numbers_of_settled(settle::evaluate(netlist, vector, values, times))
@@ -154,16 +130,8 @@ pub extern "C" fn buzzlumen_build(
     formula: &mut [i32],
 ) -> Formed
     ensures { λ r. ⌜
-        r ≡ formedOf (building (now (netlist .entry)) target (length (now (pairs .entry)))
-        (length (now (formula .entry))) .answer)
-        ⌝ }
-    ensures { λ _. ⌜
-        now (pairs .exit) ≡ building (now (netlist .entry)) target (length (now (pairs .entry)))
-        (length (now (formula .entry))) .pairs
-        ⌝ }
-    ensures { λ _. ⌜
-        now (formula .exit) ≡ building (now (netlist .entry)) target (length (now (pairs .entry)))
-        (length (now (formula .entry))) .formula
+        Builds (building (now (netlist .entry)) target (length (now (pairs .entry)))
+        (length (now (formula .entry)))) r (now (pairs .exit)) (now (formula .exit))
         ⌝ }
 {
     numbers_of_built(formula::build(netlist, target, pairs, formula))
@@ -205,7 +173,7 @@ pub extern "C" fn buzzlumen_judge(
         (now (values .exit)) (now (times .exit)) (now (pairs .exit)) (now (formula .exit)) (now (propagation .exit)) r
         ⌝ }
 {
-    numbers_of_judged(certificate::judge(
+    numbers_of_checked(certificate::judge(
         netlist,
         delay,
         vector,

@@ -4,13 +4,15 @@
 use mathlib.Core.Path.{_≡_, refl, _∙_}
 use mathlib.Core.List.{List, map, List·Memᴰ, List·Memᴰ·head}
 use Prim.Native.Nat.{ℕ, suc}
+use native.Mathlib.Omega.{arith}
 use lib.IntN.{ℤ}
 use Rattle.basics.proofs.Lists.{map-each}
 use Rattle.netlist.specs.Netlist.{Netlist}
 use Rattle.netlist.specs.Kinds.{fewest, most, kindOf}
 use Rattle.netlist.specs.File.{tableBytes, shapeOf, gateAt, pinAt, cellOf, cellAt, netlistAt, netlistOf, pinsFrom}
 use Rattle.netlist.specs.Open.{
-  openOf,
+  netlistRows,
+  rowsOver,
   firstWrong,
   countWrong,
   backWrong,
@@ -26,44 +28,34 @@ use Rattle.netlist.specs.Open.{
 }
 use Rattle.netlist.specs.Example.{circuitA}
 use Rattle.settle.specs.Settling.{gateValue, settles, grow, valuesOf, timesOf, topsOf, atZero, circuitTime}
-use Rattle.settle.specs.Promise.{settled, byteWrong, evaluationOf}
+use Rattle.settle.specs.Promise.{byteWrong, givenRows}
 use Rattle.clauses.specs.Clauses.{flat, clausesFrom, clausesOf}
-use Rattle.refute.specs.declared.Checked.{Checked}
-use Rattle.refute.specs.declared.Checked.the-variants.{Passes, Refused as Fails}
+use Rattle.refusal.specs.declared.Checked.{Checked}
+use Rattle.refusal.specs.declared.Checked.the-variants.{Passes, Refused}
+use Rattle.refusal.specs.Rows.{checked, unlessRefused}
+use Rattle.refusal.proofs.Rows.{first-passes, rest-passes}
 use Rattle.refute.specs.Passes.{isTrue, isFree, assign, say, pass, refutes, assert, follows, verdict}
-use Rattle.refute.specs.Rows.{andThen, refutationRow, firstBeyond, ended, lastRow, firstEmpty, roomRow, refutationRows}
+use Rattle.refute.specs.Rows.{refutationForm, firstBeyond, ended, lastRow, firstEmpty}
 use Rattle.refute.specs.Promise.{malformed}
 use Rattle.refute.specs.Reading.{answerOf}
-use Rattle.refute.proofs.Judging.{then-first, then-rest, formula-within, rows-pass, judged-answer}
+use Rattle.refute.proofs.Judging.{formula-within, rows-pass, judged-answer}
 use Rattle.pairs.specs.Pairs.{asked, timesAt, pairList, placeOf, pairsFor}
 use Rattle.formula.specs.Formula.{clauseOf, gateClauses, late, pairClauses, formula, pairVariable, formulaFor}
-use Rattle.formula.specs.Promise.{numbersFor, countsFor, built, buildingOf}
-use Rattle.certificate.specs.declared.Judged.{Judged}
-use Rattle.certificate.specs.declared.Judged.the-variants.{Accepted, Refused}
+use Rattle.formula.specs.Promise.{numbersFor, countsFor, buildingRows}
+use Rattle.formula.proofs.Answers.{pairs-fit}
 use Rattle.certificate.specs.Largest.{Largest}
-use Rattle.certificate.specs.Promise.{
-  Rooms,
-  Judgement,
-  openedRow,
-  witnessRow,
-  builtRow,
-  certificateRows,
-  rowsOf,
-  accepted,
-  judgementOf,
-  Judges,
-}
+use Rattle.certificate.specs.Promise.{Rooms, Judgement, Meets, certificateRows, accepted, judgementOf, Judges}
 use Rattle.certificate.specs.Cases.{Case, wire, cases}
 use Rattle.certificate.proofs.Numbers.{numbers-well-formed}
-use Rattle.certificate.proofs.Passing.{opened-passes, built-passes, built-says}
-use Rattle.certificate.proofs.Granted.{opened-valid, judges-largest}
+use Rattle.certificate.proofs.Passing.{certificate-passes}
+use Rattle.certificate.proofs.Granted.{passed-valid, judges-largest}
 
 -- ---- the promise can be met
 
 -- what the rows and the computed verdict come to
 abbrev pub checkedTo : List ℕ → ℕ → List ℕ → List ℤ → Rooms → Checked
 checkedTo file delay vector refutation rooms =
-    andThen (rowsOf file delay vector refutation rooms)
+    unlessRefused (checked (rowsOver file (certificateRows delay vector refutation rooms))) Refused
     (answerOf
     (verdict (suc (countsFor (netlistOf file) (suc delay) .variables))
     (clausesOf (numbersFor (netlistOf file) (suc delay))) (clausesOf refutation)))
@@ -73,85 +65,77 @@ abbrev pub judgementTo : List ℕ → ℕ → List ℕ → List ℤ → Rooms �
 judgementTo file delay vector refutation rooms =
     judgementOf (netlistOf file) delay vector rooms (checkedTo file delay vector refutation rooms)
 
+-- a judgement meets itself
+itself : {result : Judgement} → Meets result result
+itself =
+    record {
+      answer-is = refl;
+      values-are = refl;
+      times-are = refl;
+      pairs-are = refl;
+      formula-is = refl;
+      propagation-is = refl;
+    }
+
 -- it meets the promise, whatever is judged
 pub judgement-exists : (file : List ℕ) (delay : ℕ) (vector : List ℕ) (refutation : List ℤ) (rooms : Rooms) →
     Judges file delay vector refutation rooms (judgementTo file delay vector refutation rooms)
-unfolding rowsOf certificateRows countsFor
-judgement-exists file delay vector refutation rooms = go (rowsOf file delay vector refutation rooms) refl
+unfolding countsFor
+judgement-exists file delay vector refutation rooms =
+    go (checked (rowsOver file (certificateRows delay vector refutation rooms))) refl
   where
     net : Netlist
     net = netlistOf file
 
-    building : Checked
-    building = builtRow (buildingOf net (suc delay) (rooms .pairs) (rooms .formula) .answer)
-
-    test : Checked
-    test = refutationRows (countsFor net (suc delay) .variables) refutation (rooms .propagation)
-
-    witness : Checked
-    witness = witnessRow delay (evaluationOf net vector (rooms .values) (rooms .times) .answer)
-
-    go : (rows : Checked) → rowsOf file delay vector refutation rooms ≡ rows →
+    go : (rows : Checked) → checked (rowsOver file (certificateRows delay vector refutation rooms)) ≡ rows →
         Judges file delay vector refutation rooms
         (judgementOf net delay vector rooms
-        (andThen rows
+        (unlessRefused rows Refused
         (answerOf
         (verdict (suc (countsFor net (suc delay) .variables)) (clausesOf (numbersFor net (suc delay)))
         (clausesOf refutation)))))
-    go (Fails refusal) e = record { checked = Fails refusal; answers = malformed e; is = refl }
+    go (Refused refusal) e = record { answer = Refused refusal; answers = malformed e; meets = itself }
     go Passes e =
-        let rest = then-rest (openedRow (openOf file)) (certificateRows net delay vector refutation rooms) e in
-        let both = then-rest witness (andThen building test) rest in
-        let opened =
-        opened-passes (openOf file)
-        (then-first (openedRow (openOf file)) (certificateRows net delay vector refutation rooms) e)
+        let own = certificateRows delay vector refutation rooms net in
+        let p =
+        certificate-passes net delay vector refutation rooms (rest-passes (netlistRows file) own e)
         in
-        let answer =
-        built-passes (buildingOf net (suc delay) (rooms .pairs) (rooms .formula) .answer)
-        (then-first building test both)
-        in
+        let few = pairs-fit net (suc delay) (rooms .pairs) (rooms .formula) (p .building) in
         let well =
-        numbers-well-formed net (opened-valid file (opened .0) (opened .1)) (suc delay)
-        (built-says net (suc delay) (rooms .pairs) (rooms .formula) (answer .0) (answer .1) .few)
+        numbers-well-formed net (passed-valid file (first-passes (netlistRows file) own e)) (suc delay) (omega arith)
         in
         record {
-          checked =
+          answer =
               answerOf
               (verdict (suc (countsFor net (suc delay) .variables)) (clausesOf (numbersFor net (suc delay)))
               (clausesOf refutation));
           answers =
               judged-answer (suc (countsFor net (suc delay) .variables)) (numbersFor net (suc delay)) refutation e
               (formula-within well)
-              (rows-pass (countsFor net (suc delay) .variables) refutation (rooms .propagation)
-              (then-rest building test both) .within)
+              (rows-pass (countsFor net (suc delay) .variables) refutation (rooms .propagation) (p .testing) .within)
               refl;
-          is = refl;
+          meets = itself;
         }
 
 -- ---- the rows of the table
 
--- the answer of a check
-abbrev answered : Checked → Judged
-answered Passes = Accepted
-answered (Fails refusal) = Refused refusal
-
-judgement-answer : (net : Netlist) (delay : ℕ) (vector : List ℕ) (rooms : Rooms) (checked : Checked) →
-    judgementOf net delay vector rooms checked .answer ≡ answered checked
+judgement-answer : (net : Netlist) (delay : ℕ) (vector : List ℕ) (rooms : Rooms) (answer : Checked) →
+    judgementOf net delay vector rooms answer .answer ≡ answer
 unfolding accepted
 judgement-answer net delay vector rooms Passes = refl
-judgement-answer net delay vector rooms (Fails refusal) = refl
+judgement-answer net delay vector rooms (Refused refusal) = refl
 
-abbrev answerTo : Case → Judged
-answerTo c = answered (checkedTo (c .file) (c .delay) (c .vector) (c .refutation) (c .rooms))
+abbrev answerTo : Case → Checked
+answerTo c = checkedTo (c .file) (c .delay) (c .vector) (c .refutation) (c .rooms)
 
 computed : map answerTo cases ≡ map (λ (c : Case). c .answer) cases
 unfolding
-    cases circuitA wire openOf firstWrong countWrong backWrong pinsBefore gateWrong gatePlace sumWrong pinsAt
+    cases circuitA wire netlistRows firstWrong countWrong backWrong pinsBefore gateWrong gatePlace sumWrong pinsAt
     pinWrong pinPlace outputWrong outputPlace fewest most kindOf tableBytes shapeOf gateAt pinAt pinsFrom cellOf cellAt
-    netlistAt gateValue settles grow valuesOf timesOf topsOf circuitTime settled byteWrong evaluationOf flat clausesFrom
-    isTrue isFree assign say pass refutes assert follows verdict refutationRow firstBeyond ended lastRow firstEmpty
-    roomRow asked timesAt pairList placeOf pairsFor clauseOf gateClauses late pairClauses formula pairVariable
-    formulaFor numbersFor countsFor built buildingOf certificateRows rowsOf
+    netlistAt gateValue settles grow valuesOf timesOf topsOf circuitTime byteWrong givenRows flat clausesFrom
+    isTrue isFree assign say pass refutes assert follows verdict refutationForm firstBeyond ended lastRow firstEmpty
+    asked timesAt pairList placeOf pairsFor clauseOf gateClauses late pairClauses formula pairVariable
+    formulaFor numbersFor countsFor buildingRows
 computed = refl
 
 -- each row's call has the row's answer, as the promise means it

@@ -1,6 +1,6 @@
 -- Demand 3 of the very numbers that `build` leaves: where it answers with counts, the first `numbers` of the formula
 -- slice read back as the formula. Laws: demand-of-numbers, demand-of-build. Assumes nothing.
-use mathlib.Core.Path.{_≡_, refl, sym, ap, subst}
+use mathlib.Core.Path.{_≡_, refl, sym, ap, _∙_, subst}
 use mathlib.Core.Bool.{Bool}
 use mathlib.Core.List.{List}
 use mathlib.Core.Logic.{_↔_}
@@ -14,15 +14,17 @@ use Rattle.netlist.specs.declared.Opened.the-variants.{Accepted as Taken, Refus
 use Rattle.netlist.specs.Netlist.{Netlist, valid}
 use Rattle.netlist.specs.File.{netlistOf}
 use Rattle.netlist.specs.Open.{openOf}
+use Rattle.netlist.proofs.Calls.{accepted-net}
 use Rattle.settle.specs.Settling.{atZero}
 use Rattle.clauses.specs.Clauses.{Literal, clausesOf}
 use Rattle.formula.specs.declared.Counts.{Counts}
 use Rattle.formula.specs.declared.Built.the-variants.{Formula, Refused as Unbuilt}
-use Rattle.formula.specs.Promise.{numbersFor, Building, buildingOf, buildingBy, building}
+use Rattle.formula.specs.Promise.{numbersFor, Building, buildingOf, building}
+use Rattle.formula.proofs.Rows.{accepted, rejected}
 use Rattle.certificate.specs.Demand.{Completes, someLate}
 use Rattle.certificate.proofs.Demand.{demand-at}
 use Rattle.certificate.proofs.Numbers.{numbers-read}
-use Rattle.certificate.proofs.Granted.{opened-netlist, opened-valid}
+use Rattle.certificate.proofs.Granted.{opened-valid}
 use Rattle.certificate.proofs.Steps.{formed}
 
 -- of the formula's numbers, with all arrivals zero
@@ -40,19 +42,20 @@ built-opened : (file : List ℕ) (target pairsRoom formulaRoom : ℕ) (counts : 
     building file target pairsRoom formulaRoom .answer ≡ Formula counts →
     T (valid (netlistOf file))
     × (building file target pairsRoom formulaRoom ≡ buildingOf (netlistOf file) target pairsRoom formulaRoom)
-unfolding building
-built-opened file target pairsRoom formulaRoom counts = go (openOf file) refl
+built-opened file target pairsRoom formulaRoom counts f = go (openOf file) refl
   where
     go : (opened : Opened) → openOf file ≡ opened →
-        buildingBy file opened target pairsRoom formulaRoom .answer ≡ Formula counts →
         T (valid (netlistOf file))
-        × (buildingBy file opened target pairsRoom formulaRoom
-        ≡ buildingOf (netlistOf file) target pairsRoom formulaRoom)
-    go (Untaken refusal) e f =
-        let z : Unbuilt refusal ≡ Formula counts = f in let w : _≡_ {A = ℕ} 0 1 = cc in absurd (omega arith)
-    go (Taken shape) e f = (
+        × (building file target pairsRoom formulaRoom ≡ buildingOf (netlistOf file) target pairsRoom formulaRoom)
+    go (Untaken refusal) e =
+        let z : Unbuilt refusal ≡ Formula counts =
+        sym (ap (λ (b : Building). b .answer) (rejected file target pairsRoom formulaRoom refusal e)) ∙ f
+        in
+        let w : _≡_ {A = ℕ} 0 1 = cc in absurd (omega arith)
+    go (Taken shape) e = (
       opened-valid file shape e,
-      ap (λ (net : Netlist). buildingOf net target pairsRoom formulaRoom) (opened-netlist file shape e),
+      accepted file target pairsRoom formulaRoom shape e
+          ∙ ap (λ (net : Netlist). buildingOf net target pairsRoom formulaRoom) (sym (accepted-net file e)),
     )
 
 -- of what `build` answers and leaves, for any bytes

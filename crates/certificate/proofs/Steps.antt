@@ -1,9 +1,10 @@
 -- The steps of a certificate call, and how they make the judgement: a refusal of a step is the judgement's, since the
--- rows before it passed; where all pass, what they left is what acceptance leaves. Laws: row-passes, row-late,
--- row-refused, time-small; formed, refutes-refused, refutes-tested; certified-refused, certified-tested;
--- judges-unopened, judges-refused, judges-accepted. Assumes nothing.
+-- rows before it passed; where all pass, what they left is what acceptance leaves. Laws: time-small; formed,
+-- refutes-refused, refutes-tested; certified-unsettled, certified-late, certified-tested; judges-unopened,
+-- judges-refused, judges-accepted. Assumes nothing.
 use mathlib.Core.Path.{_≡_, refl, sym, ap, ap₂, _∙_, subst}
-use mathlib.Core.List.{List}
+use mathlib.Core.Bool.{not}
+use mathlib.Core.List.{List, _∷_}
 use Prim.Native.Nat.{ℕ, suc, _-_, _≤_}
 use native.Mathlib.Omega.{arith}
 use lib.Dec.{T}
@@ -13,70 +14,57 @@ use lib.Seq.{take-at}
 use borrow.Author.Tests.{eq-eqb, ne-eqb}
 use Rattle.refusal.specs.declared.Refusal.{Refusal}
 use Rattle.refusal.specs.declared.Refusal.the-variants.{Witness}
+use Rattle.refusal.specs.declared.Checked.{Checked}
+use Rattle.refusal.specs.declared.Checked.the-variants.{Passes, Refused}
+use Rattle.refusal.specs.Rows.{Row, checked}
+use Rattle.refusal.proofs.Rows.{stops, goes-on, refused-first, passed-first}
 use Rattle.netlist.specs.declared.Shape.{Shape}
 use Rattle.netlist.specs.declared.Opened.{Opened}
 use Rattle.netlist.specs.declared.Opened.the-variants.{Accepted as Taken, Refused as Untaken}
 use Rattle.netlist.specs.Netlist.{Netlist, valid}
 use Rattle.netlist.specs.File.{netlistAt, netlistOf}
-use Rattle.netlist.specs.Open.{openOf}
+use Rattle.netlist.specs.Open.{openOf, rowsOver}
+use Rattle.netlist.proofs.Calls.{accepted-net, rows-accepted, rows-rejected}
 use Rattle.settle.specs.declared.Settled.{Settled}
 use Rattle.settle.specs.declared.Settled.the-variants.{At, Refused as Unsettled}
-use Rattle.settle.specs.Promise.{bits, evaluationOf}
+use Rattle.settle.specs.Settling.{atZero, circuitTime}
+use Rattle.settle.specs.Promise.{bits, evaluationRows, evaluationOf}
+use Rattle.settle.proofs.Checks.{answer-refused, answer-time}
 use Rattle.settle.proofs.Nodes.{circuit-small}
 use Rattle.clauses.specs.Clauses.{clausesOf}
-use Rattle.refute.specs.declared.Checked.{Checked}
-use Rattle.refute.specs.declared.Checked.the-variants.{Passes, Refused as Fails}
-use Rattle.refute.specs.Rows.{andThen, refutationRows, WellFormed}
+use Rattle.refute.specs.Rows.{refutationRows, WellFormed}
 use Rattle.refute.specs.Promise.{Answers, malformed, Tested}
+use Rattle.refute.proofs.Judging.{answers-as}
 use Rattle.formula.specs.declared.Counts.{Counts}
 use Rattle.formula.specs.declared.Built.{Built}
 use Rattle.formula.specs.declared.Built.the-variants.{Formula, Refused as Unbuilt}
-use Rattle.formula.specs.Promise.{numbersFor, countsFor, buildingOf}
-use Rattle.certificate.specs.declared.Judged.{Judged}
-use Rattle.certificate.specs.declared.Judged.the-variants.{Accepted}
+use Rattle.formula.specs.Promise.{Building, numbersFor, countsFor, built, buildingRows, buildingOf}
+use Rattle.formula.proofs.Answers.{answer-refused as build-refused, answer-counts, passed-built, pairs-fit}
 use Rattle.certificate.specs.Promise.{
   Rooms,
   Judgement,
+  Meets,
   leaving,
-  openedRow,
   witnessRow,
-  builtRow,
+  refutingRows,
   certificateRows,
-  rowsOf,
   refused,
   accepted,
   judgementOf,
   Judges,
   roomsOf,
 }
-use Rattle.certificate.specs.Steps.{Zeroed, Refutes, Certified}
+use Rattle.certificate.specs.Steps.{Refutes, Certified}
 use Rattle.certificate.proofs.Numbers.{numbers-well-formed}
-use Rattle.certificate.proofs.Passing.{built-says, settled-says}
-use Rattle.certificate.proofs.Granted.{opened-netlist}
 
--- ---- the vector's row
-
--- it settles at the delay
-pub row-passes : {answer : Settled} {time : ℕ} (delay : ℕ) → answer ≡ At time → time ≡ delay →
-    witnessRow delay answer ≡ Passes
-row-passes {time = time} delay e h = ap (witnessRow delay) e ∙ rw (eq-eqb time delay h) refl
-
--- it settles at another time
-pub row-late : {answer : Settled} {time : ℕ} (delay : ℕ) → answer ≡ At time → (time ≡ delay → ⊥) →
-    witnessRow delay answer ≡ Fails (Witness time)
-row-late {time = time} delay e h = ap (witnessRow delay) e ∙ rw (ne-eqb time delay h) refl
-
--- it is refused before
-pub row-refused : {answer : Settled} {refusal : Refusal} (delay : ℕ) → answer ≡ Unsettled refusal →
-    witnessRow delay answer ≡ Fails refusal
-row-refused delay e = ap (witnessRow delay) e
+-- ---- the vector
 
 -- a time at which a vector settles is small
 pub time-small : (net : Netlist) (vector : List ℕ) (valuesRoom timesRoom : ℕ) {answer : Settled} {time : ℕ} →
     T (valid net) → answer ≡ evaluationOf net vector valuesRoom timesRoom .answer → answer ≡ At time →
     time ≤ 447552
-time-small net vector valuesRoom timesRoom {time = time} ok a e =
-    let s = settled-says net vector valuesRoom timesRoom time (sym a ∙ e) in
+time-small net vector valuesRoom timesRoom ok a e =
+    let s = answer-time net vector valuesRoom timesRoom a e in
     let h = circuit-small net ok (bits vector) in
     omega (arith, s .1)
 
@@ -94,12 +82,12 @@ pub formed : {net : Netlist} {target : ℕ} (pairsRoom formulaRoom : ℕ) {answe
     {formula : List ℤ} → T (valid net) → answer ≡ buildingOf net target pairsRoom formulaRoom .answer →
     formula ≡ buildingOf net target pairsRoom formulaRoom .formula → answer ≡ Formula counts →
     Formed net target counts formula
-unfolding countsFor
+unfolding countsFor built
 formed {net} {target} pairsRoom formulaRoom {answer} {counts} {formula} ok a f e =
-    let b = built-says net target pairsRoom formulaRoom counts (sym a ∙ e) in
-    let n : counts .numbers ≡ length (numbersFor net target) = ap (λ (k : Counts). k .numbers) (b .counts-are) in
-    let v = ap (λ (k : Counts). k .variables) (b .counts-are) in
-    let whole = f ∙ b .formula-is in
+    let b = answer-counts net target pairsRoom formulaRoom a e in
+    let n : counts .numbers ≡ length (numbersFor net target) = ap (λ (k : Counts). k .numbers) (b .1) in
+    let v = ap (λ (k : Counts). k .variables) (b .1) in
+    let whole = f ∙ ap (λ (k : Building). k .formula) (passed-built net target pairsRoom formulaRoom (b .0)) in
     let zeros = replicate (formulaRoom - length (numbersFor net target)) (pos 0) in
     let front : take (counts .numbers) formula ≡ numbersFor net target =
     ap₂ take n whole ∙ take-at (numbersFor net target) zeros (length (numbersFor net target)) refl
@@ -112,7 +100,7 @@ formed {net} {target} pairsRoom formulaRoom {answer} {counts} {formula} ok a f e
       well-formed =
           subst (WellFormed (counts .variables)) (sym front)
           (subst (λ (k : ℕ). WellFormed k (numbersFor net target)) (sym v)
-          (numbers-well-formed net ok target (b .few)));
+          (numbers-well-formed net ok target (omega (arith, pairs-fit net target pairsRoom formulaRoom (b .0)))));
     }
 
 module _ {net : Netlist} {target : ℕ} {refutation : List ℤ} {pairsRoom formulaRoom propagationRoom : ℕ}
@@ -123,10 +111,14 @@ module _ {net : Netlist} {target : ℕ} {refutation : List ℤ} {pairsRoom formu
       formula ≡ buildingOf net target pairsRoom formulaRoom .formula →
       length pairs ≡ pairsRoom → length formula ≡ formulaRoom → length propagation ≡ propagationRoom →
       answer ≡ Unbuilt refusal →
-      Refutes net target refutation pairsRoom formulaRoom propagationRoom (Fails refusal) pairs formula propagation
+      Refutes net target refutation pairsRoom formulaRoom propagationRoom (Refused refusal) pairs formula propagation
   refutes-refused {refusal} a p f l m n e =
       record {
-        answers = malformed (ap (λ (b : Built). andThen (builtRow b) rest) (sym a ∙ e));
+        answers =
+            malformed
+            (refused-first (buildingRows net target pairsRoom formulaRoom)
+            (refutationRows (countsFor net target .variables) refutation propagationRoom)
+            (build-refused net target pairsRoom formulaRoom a e));
         pairs-are = p;
         formula-is = f;
         propagation-is = λ q. let w : _≡_ {A = ℕ} 0 1 = cc in absurd (omega arith);
@@ -134,9 +126,6 @@ module _ {net : Netlist} {target : ℕ} {refutation : List ℤ} {pairsRoom formu
         formula-long = m;
         propagation-long = n;
       }
-    where
-      rest : Checked
-      rest = refutationRows (countsFor net target .variables) refutation propagationRoom
 
   -- the formula is built, and the refutation tested
   pub refutes-tested : {counts : Counts} {tested : Checked} → T (valid net) →
@@ -152,8 +141,11 @@ module _ {net : Netlist} {target : ℕ} {refutation : List ℤ} {pairsRoom formu
       let b = formed pairsRoom formulaRoom ok a f e in
       record {
         answers =
-            subst (λ (rows : Checked). Answers rows (clausesOf (numbersFor net target)) (clausesOf refutation) tested)
-            (sym (ap (λ (k : Built). andThen (builtRow k) rest) (sym a ∙ e)))
+            answers-as
+            (sym
+            (passed-first (buildingRows net target pairsRoom formulaRoom)
+            (refutationRows (countsFor net target .variables) refutation propagationRoom)
+            (answer-counts net target pairsRoom formulaRoom a e .0)))
             (subst (λ (k : ℕ). Tested k (numbersFor net target) refutation propagationRoom tested) (b .variables-are)
             (subst (λ (zs : List ℤ). Tested (counts .variables) zs refutation propagationRoom tested)
             (b .numbers-are) t));
@@ -164,9 +156,6 @@ module _ {net : Netlist} {target : ℕ} {refutation : List ℤ} {pairsRoom formu
         formula-long = m;
         propagation-long = n;
       }
-    where
-      rest : Checked
-      rest = refutationRows (countsFor net target .variables) refutation propagationRoom
 
 -- ---- the certificate of an accepted netlist
 
@@ -176,141 +165,146 @@ same-rooms : {v t p f g v′ t′ p′ f′ g′ : ℕ} → v ≡ v′ → t ≡
     (record { values = v′; times = t′; pairs = p′; formula = f′; propagation = g′ })
 same-rooms a b c d e = cc
 
--- judgements of the same parts
-same-judgement : {a a′ : Judged} {v v′ t t′ p p′ g g′ : List ℕ} {f f′ : List ℤ} → a ≡ a′ → v ≡ v′ → t ≡ t′ → p ≡ p′ →
-    f ≡ f′ → g ≡ g′ → leaving a v t p f g ≡ leaving a′ v′ t′ p′ f′ g′
-same-judgement a v t p f g = cc
+-- what meets one judgement meets an equal one
+meets-as : {a b result : Judgement} → a ≡ b → Meets a result → Meets b result
+meets-as {result = result} e m = subst (λ (promised : Judgement). Meets promised result) e m
 
--- the rows after the vector's
-abbrev rest : Netlist → ℕ → List ℤ → Rooms → Checked
-rest net target refutation rooms =
-    andThen (builtRow (buildingOf net target (rooms .pairs) (rooms .formula) .answer))
-    (refutationRows (countsFor net target .variables) refutation (rooms .propagation))
+-- the rows up to the vector's, and those after it
+abbrev evaluating : Netlist → List ℕ → Rooms → List Row
+evaluating net vector rooms = evaluationRows net vector (rooms .values) (rooms .times)
+
+abbrev refuting : Netlist → ℕ → List ℤ → Rooms → List Row
+refuting net delay refutation rooms =
+    refutingRows net (suc delay) refutation (rooms .pairs) (rooms .formula) (rooms .propagation)
 
 module _ {net : Netlist} {delay : ℕ} {vector : List ℕ} {refutation : List ℤ} {rooms : Rooms}
     {values times pairs : List ℕ} {formula : List ℤ} {propagation : List ℕ} {answer : Settled}
     (a : answer ≡ evaluationOf net vector (rooms .values) (rooms .times) .answer) where
-  -- the vector's row refuses
-  pub certified-refused : {refusal : Refusal} → witnessRow delay answer ≡ Fails refusal →
+  -- a row refuses: what the slices hold matters no more, but for their lengths
+  certified-refused : {refusal : Refusal} →
+      checked (certificateRows delay vector refutation rooms net) ≡ Refused refusal →
       length values ≡ rooms .values → length times ≡ rooms .times → length pairs ≡ rooms .pairs →
       length formula ≡ rooms .formula → length propagation ≡ rooms .propagation →
-      Certified net delay vector refutation rooms (Fails refusal) values times pairs formula propagation
-  unfolding certificateRows
+      Certified net delay vector refutation rooms (Refused refusal) values times pairs formula propagation
   certified-refused e v t p f g =
       record {
-        answers =
-            malformed
-            (ap (λ (s : Settled). andThen (witnessRow delay s) (rest net (suc delay) refutation rooms)) (sym a)
-            ∙ ap (λ (c : Checked). andThen c (rest net (suc delay) refutation rooms)) e);
+        answers = malformed e;
         leaves = λ q. let w : _≡_ {A = ℕ} 0 1 = cc in absurd (omega arith);
         rooms-are = same-rooms v t p f g;
       }
 
-  -- it passes, and the refutation is tested
-  pub certified-tested : {tested : Checked} {target : ℕ} → witnessRow delay answer ≡ Passes →
-      values ≡ evaluationOf net vector (rooms .values) (rooms .times) .values →
-      times ≡ evaluationOf net vector (rooms .values) (rooms .times) .times →
-      length values ≡ rooms .values → length times ≡ rooms .times → target ≡ suc delay →
-      Refutes net target refutation (rooms .pairs) (rooms .formula) (rooms .propagation) tested pairs formula
-      propagation →
-      Certified net delay vector refutation rooms tested values times pairs formula propagation
-  unfolding certificateRows accepted
-  certified-tested {tested} e v t l m next r =
-      record {
-        answers =
-            subst
-            (λ (rows : Checked).
-            Answers rows (clausesOf (numbersFor net (suc delay))) (clausesOf refutation) tested)
-            (sym
-            (ap (λ (s : Settled). andThen (witnessRow delay s) (rest net (suc delay) refutation rooms)) (sym a)
-            ∙ ap (λ (c : Checked). andThen c (rest net (suc delay) refutation rooms)) e))
-            (subst
-            (λ (n : ℕ).
-            Answers (rest net n refutation rooms) (clausesOf (numbersFor net n)) (clausesOf refutation) tested)
-            next (r .answers));
-        leaves =
-            λ q.
-            same-judgement refl v t
-            (r .pairs-are ∙ ap (λ (n : ℕ). buildingOf net n (rooms .pairs) (rooms .formula) .pairs) next)
-            (r .formula-is ∙ ap (λ (n : ℕ). buildingOf net n (rooms .pairs) (rooms .formula) .formula) next)
-            (r .propagation-is q);
-        rooms-are = same-rooms l m (r .pairs-long) (r .formula-long) (r .propagation-long);
-      }
+  -- the vector or its rooms are refused
+  pub certified-unsettled : {refusal : Refusal} → answer ≡ Unsettled refusal →
+      length values ≡ rooms .values → length times ≡ rooms .times → length pairs ≡ rooms .pairs →
+      length formula ≡ rooms .formula → length propagation ≡ rooms .propagation →
+      Certified net delay vector refutation rooms (Refused refusal) values times pairs formula propagation
+  certified-unsettled e =
+      certified-refused
+      (refused-first (evaluating net vector rooms)
+      (witnessRow net delay vector ∷ refuting net delay refutation rooms)
+      (answer-refused net vector (rooms .values) (rooms .times) a e))
+
+  module _ {time : ℕ} (e : answer ≡ At time) where
+    -- the vector settles at another time
+    pub certified-late : (time ≡ delay → ⊥) →
+        length values ≡ rooms .values → length times ≡ rooms .times → length pairs ≡ rooms .pairs →
+        length formula ≡ rooms .formula → length propagation ≡ rooms .propagation →
+        Certified net delay vector refutation rooms (Refused (Witness time)) values times pairs formula propagation
+    certified-late h =
+        let says = answer-time net vector (rooms .values) (rooms .times) a e in
+        certified-refused
+        (passed-first (evaluating net vector rooms)
+        (witnessRow net delay vector ∷ refuting net delay refutation rooms) (says .0)
+        ∙ stops (Witness (circuitTime net (atZero net) (bits vector))) (refuting net delay refutation rooms)
+        (ap not (ne-eqb (circuitTime net (atZero net) (bits vector)) delay (λ q. h (sym (says .1) ∙ q))))
+        ∙ ap (λ (t : ℕ). Refused (Witness t)) (says .1))
+
+    -- it settles at the delay, and the refutation is tested
+    pub certified-tested : {tested : Checked} {target : ℕ} → time ≡ delay →
+        values ≡ evaluationOf net vector (rooms .values) (rooms .times) .values →
+        times ≡ evaluationOf net vector (rooms .values) (rooms .times) .times →
+        length values ≡ rooms .values → length times ≡ rooms .times → target ≡ suc delay →
+        Refutes net target refutation (rooms .pairs) (rooms .formula) (rooms .propagation) tested pairs formula
+        propagation →
+        Certified net delay vector refutation rooms tested values times pairs formula propagation
+    unfolding accepted
+    certified-tested {tested} h v t l m next r =
+        let says = answer-time net vector (rooms .values) (rooms .times) a e in
+        record {
+          answers =
+              answers-as
+              (sym
+              (passed-first (evaluating net vector rooms)
+              (witnessRow net delay vector ∷ refuting net delay refutation rooms) (says .0)
+              ∙ goes-on (Witness (circuitTime net (atZero net) (bits vector))) (refuting net delay refutation rooms)
+              (ap not (eq-eqb (circuitTime net (atZero net) (bits vector)) delay (says .1 ∙ h)))))
+              (subst
+              (λ (n : ℕ).
+              Answers (refutingRows net n refutation (rooms .pairs) (rooms .formula) (rooms .propagation))
+              (clausesOf (numbersFor net n)) (clausesOf refutation) tested)
+              next (r .answers));
+          leaves =
+              λ q.
+              record {
+                answer-is = refl;
+                values-are = v;
+                times-are = t;
+                pairs-are =
+                    r .pairs-are ∙ ap (λ (n : ℕ). buildingOf net n (rooms .pairs) (rooms .formula) .pairs) next;
+                formula-is =
+                    r .formula-is ∙ ap (λ (n : ℕ). buildingOf net n (rooms .pairs) (rooms .formula) .formula) next;
+                propagation-is = r .propagation-is q;
+              };
+          rooms-are = same-rooms l m (r .pairs-long) (r .formula-long) (r .propagation-long);
+        }
 
 -- ---- of any bytes
-
--- the rows of a file that was opened
-opened-rows : (file : List ℕ) (delay : ℕ) (vector : List ℕ) (refutation : List ℤ) (rooms : Rooms) (opened : Opened) →
-    opened ≡ openOf file →
-    rowsOf file delay vector refutation rooms
-    ≡ andThen (openedRow opened) (certificateRows (netlistOf file) delay vector refutation rooms)
-unfolding rowsOf
-opened-rows file delay vector refutation rooms opened o =
-    ap
-    (λ (k : Opened). andThen (openedRow k) (certificateRows (netlistOf file) delay vector refutation rooms))
-    (sym o)
-
--- a refusal that zeroed every slice is the promise's
-zeroed-is : {rooms : Rooms} {refusal : Refusal} {result : Judgement} → Zeroed rooms refusal result →
-    result ≡ refused rooms refusal
-zeroed-is z =
-    same-judgement (z .answer-is) (z .values-are) (z .times-are) (z .pairs-are) (z .formula-is) (z .propagation-is)
 
 module _ {file : List ℕ} {delay : ℕ} {vector : List ℕ} {refutation : List ℤ} {rooms : Rooms} where
   -- the file is refused
   pub judges-unopened : {opened : Opened} {refusal : Refusal} {result : Judgement} → opened ≡ openOf file →
-      opened ≡ Untaken refusal → Zeroed rooms refusal result → Judges file delay vector refutation rooms result
+      opened ≡ Untaken refusal → Meets (refused rooms refusal) result → Judges file delay vector refutation rooms result
   judges-unopened {opened} {refusal} o e z =
       record {
-        checked = Fails refusal;
-        answers =
-            malformed
-            (opened-rows file delay vector refutation rooms opened o
-            ∙ ap
-            (λ (k : Opened).
-            andThen (openedRow k) (certificateRows (netlistOf file) delay vector refutation rooms)) e);
-        is = zeroed-is z;
+        answer = Refused refusal;
+        answers = malformed (rows-rejected file (certificateRows delay vector refutation rooms) (sym o ∙ e));
+        meets = z;
       }
 
   -- the file is accepted, and its certificate was looked at
-  module _ {opened : Opened} {shape : Shape} {checked : Checked} {values times pairs : List ℕ} {formula : List ℤ}
+  module _ {opened : Opened} {shape : Shape} {answer : Checked} {values times pairs : List ℕ} {formula : List ℤ}
       {propagation : List ℕ} (o : opened ≡ openOf file) (e : opened ≡ Taken shape)
-      (c : Certified (netlistAt file shape) delay vector refutation rooms checked values times pairs formula
+      (c : Certified (netlistAt file shape) delay vector refutation rooms answer values times pairs formula
       propagation) where
-    judges : {result : Judgement} → result ≡ judgementOf (netlistAt file shape) delay vector rooms checked →
+    judges : {result : Judgement} → Meets (judgementOf (netlistAt file shape) delay vector rooms answer) result →
         Judges file delay vector refutation rooms result
     judges r =
-        let own = opened-netlist file shape (sym o ∙ e) in
+        let same = accepted-net file (sym o ∙ e) in
         record {
-          checked = checked;
+          answer = answer;
           answers =
-              subst
-              (λ (rows : Checked).
-              Answers rows (clausesOf (numbersFor (netlistOf file) (suc delay))) (clausesOf refutation) checked)
-              (sym
-              (opened-rows file delay vector refutation rooms opened o
-              ∙ ap
-              (λ (k : Opened).
-              andThen (openedRow k) (certificateRows (netlistOf file) delay vector refutation rooms)) e))
+              answers-as (sym (rows-accepted file (certificateRows delay vector refutation rooms) (sym o ∙ e)))
               (subst
               (λ (net : Netlist).
-              Answers (certificateRows net delay vector refutation rooms) (clausesOf (numbersFor net (suc delay)))
-              (clausesOf refutation) checked)
-              own (c .answers));
-          is = r ∙ ap (λ (net : Netlist). judgementOf net delay vector rooms checked) own;
+              Answers (certificateRows delay vector refutation rooms (netlistAt file shape))
+              (clausesOf (numbersFor net (suc delay))) (clausesOf refutation) answer)
+              (sym same) (c .answers));
+          meets = meets-as (ap (λ (net : Netlist). judgementOf net delay vector rooms answer) (sym same)) r;
         }
 
     -- it is refused
-    pub judges-refused : {refusal : Refusal} {result : Judgement} → checked ≡ Fails refusal →
-        Zeroed (roomsOf values times pairs formula propagation) refusal result →
+    pub judges-refused : {refusal : Refusal} {result : Judgement} → answer ≡ Refused refusal →
+        Meets (refused (roomsOf values times pairs formula propagation) refusal) result →
         Judges file delay vector refutation rooms result
     judges-refused {refusal} q z =
         judges
-        (zeroed-is z
-        ∙ ap (λ (k : Rooms). refused k refusal) (c .rooms-are)
+        (meets-as
+        (ap (λ (k : Rooms). refused k refusal) (c .rooms-are)
         ∙ sym (ap (judgementOf (netlistAt file shape) delay vector rooms) q))
+        z)
 
     -- it is accepted
-    pub judges-accepted : checked ≡ Passes →
-        Judges file delay vector refutation rooms (leaving Accepted values times pairs formula propagation)
-    judges-accepted q = judges (c .leaves q ∙ sym (ap (judgementOf (netlistAt file shape) delay vector rooms) q))
+    pub judges-accepted : answer ≡ Passes →
+        Judges file delay vector refutation rooms (leaving Passes values times pairs formula propagation)
+    judges-accepted q =
+        judges (meets-as (sym (ap (judgementOf (netlistAt file shape) delay vector rooms) q)) (c .leaves q))

@@ -4,9 +4,9 @@ use mathlib.Core.List.{List, [], _∷_}
 use Prim.Native.Nat.{ℕ}
 use lib.IntN.{ℤ, pos}
 use Rattle.refusal.specs.declared.Refusal.the-variants.{Vector, Room, Pairs, Refutation, Last, Step, Witness}
+use Rattle.refusal.specs.declared.Checked.{Checked}
+use Rattle.refusal.specs.declared.Checked.the-variants.{Passes, Refused}
 use Rattle.netlist.specs.Example.{circuitA}
-use Rattle.certificate.specs.declared.Judged.{Judged}
-use Rattle.certificate.specs.declared.Judged.the-variants.{Accepted, Refused}
 use Rattle.certificate.specs.Promise.{Rooms}
 
 -- one certificate call and its answer
@@ -16,7 +16,7 @@ pub record Case : Type 0 where
   pub vector : List ℕ
   pub refutation : List ℤ
   pub rooms : Rooms
-  pub answer : Judged
+  pub answer : Checked
 
 -- the rooms, in the order of the slices
 abbrev pub lending : ℕ → ℕ → ℕ → ℕ → ℕ → Rooms
@@ -24,7 +24,7 @@ lending values times pairs formula propagation =
     record { values = values; times = times; pairs = pairs; formula = formula; propagation = propagation }
 
 -- a call and its answer
-abbrev pub case : List ℕ → ℕ → List ℕ → List ℤ → Rooms → Judged → Case
+abbrev pub case : List ℕ → ℕ → List ℕ → List ℤ → Rooms → Checked → Case
 case file delay vector refutation rooms answer =
     record {
       file = file;
@@ -44,10 +44,10 @@ wire = 0 ∷ 0 ∷ 2 ∷ 0 ∷ 0 ∷ 0 ∷ 1 ∷ 0 ∷ 0 ∷ 0 ∷ 0 ∷ 0 ∷ 1
 -- Then, for circuit A's certificate: each slice one short, a vector that is none, and refutations that are none.
 unfoldable pub cases : List Case
 cases =
-    case circuitA 2 (0 ∷ 0 ∷ []) (pos 0 ∷ []) (lending 5 5 6 48 9) Accepted
+    case circuitA 2 (0 ∷ 0 ∷ []) (pos 0 ∷ []) (lending 5 5 6 48 9) Passes
     ∷ case circuitA 2 (0 ∷ 1 ∷ []) (pos 0 ∷ []) (lending 5 5 6 48 9) (Refused (Witness 1))
     ∷ case circuitA 5 (0 ∷ 0 ∷ []) (pos 0 ∷ []) (lending 5 5 6 48 9) (Refused (Witness 2))
-    ∷ case wire 0 (1 ∷ []) (pos 0 ∷ []) (lending 1 1 0 1 2) Accepted
+    ∷ case wire 0 (1 ∷ []) (pos 0 ∷ []) (lending 1 1 0 1 2) Passes
     ∷ case circuitA 2 (0 ∷ 0 ∷ []) (pos 0 ∷ []) (lending 4 5 6 48 9) (Refused (Room 5))
     ∷ case circuitA 2 (0 ∷ 0 ∷ []) (pos 0 ∷ []) (lending 5 4 6 48 9) (Refused (Room 5))
     ∷ case circuitA 2 (0 ∷ 0 ∷ []) (pos 0 ∷ []) (lending 5 5 5 48 9) (Refused Pairs)

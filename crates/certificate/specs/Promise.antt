@@ -2,32 +2,26 @@
 -- values and times, 15, 10, room for the formula, 12, 13, room for propagation, 14." The rows of evaluation, of
 -- building and of the test of a refutation are those of crates settle, formula and refute. Interface: Judges.
 use mathlib.Core.Path.{_≡_}
-use mathlib.Core.Bool.{cond}
-use mathlib.Core.List.{List}
+use mathlib.Core.Bool.{not}
+use mathlib.Core.List.{List, _∷_, _++_}
 use Prim.Native.Nat.{ℕ, suc}
 use lib.Dec.{eqb}
 use lib.IntN.{ℤ, pos}
 use lib.ListN.{length, replicate}
 use Rattle.refusal.specs.declared.Refusal.{Refusal}
 use Rattle.refusal.specs.declared.Refusal.the-variants.{Witness}
-use Rattle.netlist.specs.declared.Opened.{Opened}
-use Rattle.netlist.specs.declared.Opened.the-variants.{Accepted as Taken, Refused as Untaken}
+use Rattle.refusal.specs.declared.Checked.{Checked}
+use Rattle.refusal.specs.declared.Checked.the-variants.{Passes, Refused}
+use Rattle.refusal.specs.Rows.{Row, unlessRefused}
 use Rattle.netlist.specs.Netlist.{Netlist}
 use Rattle.netlist.specs.File.{netlistOf}
-use Rattle.netlist.specs.Open.{openOf}
-use Rattle.settle.specs.declared.Settled.{Settled}
-use Rattle.settle.specs.declared.Settled.the-variants.{At, Refused as Unsettled}
-use Rattle.settle.specs.Promise.{evaluationOf}
+use Rattle.netlist.specs.Open.{rowsOver}
+use Rattle.settle.specs.Settling.{atZero, circuitTime}
+use Rattle.settle.specs.Promise.{bits, evaluationRows, evaluationOf}
 use Rattle.clauses.specs.Clauses.{clausesOf}
-use Rattle.refute.specs.declared.Checked.{Checked}
-use Rattle.refute.specs.declared.Checked.the-variants.{Passes, Refused as Fails}
-use Rattle.refute.specs.Rows.{andThen, refutationRows}
+use Rattle.refute.specs.Rows.{refutationRows}
 use Rattle.refute.specs.Promise.{Answers}
-use Rattle.formula.specs.declared.Built.{Built}
-use Rattle.formula.specs.declared.Built.the-variants.{Formula, Refused as Unbuilt}
-use Rattle.formula.specs.Promise.{numbersFor, countsFor, buildingOf}
-use Rattle.certificate.specs.declared.Judged.{Judged}
-use Rattle.certificate.specs.declared.Judged.the-variants.{Accepted, Refused}
+use Rattle.formula.specs.Promise.{numbersFor, countsFor, buildingRows, buildingOf}
 
 -- how many elements each lent slice has
 pub record Rooms : Type 0 where
@@ -50,7 +44,7 @@ roomsOf values times pairs formula propagation =
 
 -- the answer, and the whole content of each lent slice
 pub record Judgement : Type 0 where
-  pub answer : Judged
+  pub answer : Checked
   pub values : List ℕ
   pub times : List ℕ
   pub pairs : List ℕ
@@ -58,7 +52,7 @@ pub record Judgement : Type 0 where
   pub propagation : List ℕ
 
 -- an answer with the slices as they are left
-abbrev pub leaving : Judged → List ℕ → List ℕ → List ℕ → List ℤ → List ℕ → Judgement
+abbrev pub leaving : Checked → List ℕ → List ℕ → List ℕ → List ℤ → List ℕ → Judgement
 leaving answer values times pairs formula propagation =
     record {
       answer = answer;
@@ -69,34 +63,37 @@ leaving answer values times pairs formula propagation =
       propagation = propagation;
     }
 
+-- an answer and the contents of the slices are those of a judgement
+pub record Meets (promised result : Judgement) : Type 0 where
+  pub answer-is : result .answer ≡ promised .answer
+  pub values-are : result .values ≡ promised .values
+  pub times-are : result .times ≡ promised .times
+  pub pairs-are : result .pairs ≡ promised .pairs
+  pub formula-is : result .formula ≡ promised .formula
+  pub propagation-is : result .propagation ≡ promised .propagation
+
 -- ---- the rows before 14
 
--- 1 to 7
-abbrev pub openedRow : Opened → Checked
-openedRow (Untaken refusal) = Fails refusal
-openedRow (Taken shape) = Passes
+-- 15 WITNESS "the vector doesn't settle at D": "time it does"
+abbrev pub witnessRow : Netlist → ℕ → List ℕ → Row
+witnessRow net delay vector = (
+  not (eqb (circuitTime net (atZero net) (bits vector)) delay),
+  Witness (circuitTime net (atZero net) (bits vector)),
+)
 
--- 8, room for values and times; then 15 WITNESS "the vector doesn't settle at D": "time it does"
-abbrev pub witnessRow : ℕ → Settled → Checked
-witnessRow delay (Unsettled refusal) = Fails refusal
-witnessRow delay (At time) = cond (eqb time delay) Passes (Fails (Witness time))
+-- the formula for a target is built, and the refutation tested against it: 10, room for the formula, 12, 13, room for
+-- propagation
+abbrev pub refutingRows : Netlist → ℕ → List ℤ → ℕ → ℕ → ℕ → List Row
+refutingRows net target refutation pairsRoom formulaRoom propagationRoom =
+    buildingRows net target pairsRoom formulaRoom
+    ++ refutationRows (countsFor net target .variables) refutation propagationRoom
 
--- 10, room for the formula
-abbrev pub builtRow : Built → Checked
-builtRow (Unbuilt refusal) = Fails refusal
-builtRow (Formula counts) = Passes
-
--- of an accepted netlist: the vector is evaluated, the formula for D+1 built, and the refutation tested against it
-unfoldable pub certificateRows : Netlist → ℕ → List ℕ → List ℤ → Rooms → Checked
-certificateRows net delay vector refutation rooms =
-    andThen (witnessRow delay (evaluationOf net vector (rooms .values) (rooms .times) .answer))
-    (andThen (builtRow (buildingOf net (suc delay) (rooms .pairs) (rooms .formula) .answer))
-    (refutationRows (countsFor net (suc delay) .variables) refutation (rooms .propagation)))
-
--- of any bytes
-unfoldable pub rowsOf : List ℕ → ℕ → List ℕ → List ℤ → Rooms → Checked
-rowsOf file delay vector refutation rooms =
-    andThen (openedRow (openOf file)) (certificateRows (netlistOf file) delay vector refutation rooms)
+-- of an accepted netlist: the vector is evaluated, 8 and its rooms; 15; then the formula for D+1
+abbrev pub certificateRows : ℕ → List ℕ → List ℤ → Rooms → Netlist → List Row
+certificateRows delay vector refutation rooms net =
+    evaluationRows net vector (rooms .values) (rooms .times)
+    ++ (witnessRow net delay vector
+    ∷ refutingRows net (suc delay) refutation (rooms .pairs) (rooms .formula) (rooms .propagation))
 
 -- ---- answer and slices
 
@@ -117,7 +114,7 @@ refused rooms refusal =
 unfoldable pub accepted : Netlist → ℕ → List ℕ → Rooms → Judgement
 accepted net delay vector rooms =
     record {
-      answer = Accepted;
+      answer = Passes;
       values = evaluationOf net vector (rooms .values) (rooms .times) .values;
       times = evaluationOf net vector (rooms .values) (rooms .times) .times;
       pairs = buildingOf net (suc delay) (rooms .pairs) (rooms .formula) .pairs;
@@ -127,15 +124,14 @@ accepted net delay vector rooms =
 
 -- what a check comes to
 abbrev pub judgementOf : Netlist → ℕ → List ℕ → Rooms → Checked → Judgement
-judgementOf net delay vector rooms Passes = accepted net delay vector rooms
-judgementOf net delay vector rooms (Fails refusal) = refused rooms refusal
+judgementOf net delay vector rooms answer = unlessRefused answer (refused rooms) (accepted net delay vector rooms)
 
 -- of any bytes, any delay, any vector and any refutation: the first row before 14 that refuses; or else 14 STEP, or
 -- acceptance, by the order-free verdict on the refutation against the very numbers of the formula for D+1
 pub record Judges (file : List ℕ) (delay : ℕ) (vector : List ℕ) (refutation : List ℤ) (rooms : Rooms)
     (result : Judgement) : Type 0 where
-  pub checked : Checked
+  pub answer : Checked
   pub answers :
-      Answers (rowsOf file delay vector refutation rooms) (clausesOf (numbersFor (netlistOf file) (suc delay)))
-      (clausesOf refutation) checked
-  pub is : result ≡ judgementOf (netlistOf file) delay vector rooms checked
+      Answers (rowsOver file (certificateRows delay vector refutation rooms))
+      (clausesOf (numbersFor (netlistOf file) (suc delay))) (clausesOf refutation) answer
+  pub meets : Meets (judgementOf (netlistOf file) delay vector rooms answer) result

@@ -3,24 +3,18 @@
 use formula::Built;
 use netlist::Opened;
 use netlist::Shape;
+use refusal::Checked;
 use refusal::Refusal;
-use refute::Checked;
 use settle::Settled;
 ghost use mathlib.Core.Path.{_≡_};
 ghost use lib.ListN.{length};
 ghost use Rattle.netlist.specs.Holds.{Holds};
 ghost use Rattle.netlist.specs.File.{netlistAt, netlistOf};
 ghost use Rattle.settle.specs.Settling.{atZero};
-ghost use Rattle.certificate.specs.declared.Judged.the-variants.{Accepted};
+ghost use Rattle.refusal.specs.declared.Checked.the-variants.{Passes};
 ghost use Rattle.certificate.specs.Largest.{Largest};
-ghost use Rattle.certificate.specs.Promise.{roomsOf, leaving, Judges};
-ghost use Rattle.certificate.specs.Steps.{Zeroed, Refutes, Certified};
-
-// What is said of a certificate.
-pub enum Judged {
-    Accepted,
-    Refused(Refusal),
-}
+ghost use Rattle.certificate.specs.Promise.{Meets, roomsOf, leaving, refused, Judges};
+ghost use Rattle.certificate.specs.Steps.{Refutes, Certified};
 
 // A refusal: every lent slice is zeroed.
 fn refuse(
@@ -30,11 +24,12 @@ fn refuse(
     pairs: &mut [u32],
     formula: &mut [i32],
     propagation: &mut [u8],
-) -> Judged
-    ensures { λ r. ⌜ Zeroed
+) -> Checked
+    ensures { λ r. ⌜ Meets
+        (refused
         (roomsOf (now (values .entry)) (now (times .entry)) (now (pairs .entry)) (now (formula .entry))
         (now (propagation .entry)))
-        refusal
+        refusal)
         (leaving r (now (values .exit)) (now (times .exit)) (now (pairs .exit)) (now (formula .exit))
         (now (propagation .exit))) ⌝ }
 {
@@ -43,7 +38,7 @@ fn refuse(
     lent::zero_u32(pairs);
     lent::zero_i32(formula);
     lent::zero_u8(propagation);
-    Judged::Refused(refusal)
+    Checked::Refused(refusal)
 }
 
 // The refutation's part: the formula for the target is built, and the refutation tested against its numbers.
@@ -127,13 +122,13 @@ pub fn judge(
     pairs: &mut [u32],
     formula: &mut [i32],
     propagation: &mut [u8],
-) -> Judged
+) -> Checked
     ensures { λ r. ⌜ Judges (now (file .entry)) delay (now (vector .entry)) (now (refutation .entry))
         (roomsOf (now (values .entry)) (now (times .entry)) (now (pairs .entry)) (now (formula .entry))
         (now (propagation .entry)))
         (leaving r (now (values .exit)) (now (times .exit)) (now (pairs .exit)) (now (formula .exit))
         (now (propagation .exit))) ⌝ }
-    ensures { λ r. ⌜ (r ≡ Accepted →
+    ensures { λ r. ⌜ (r ≡ Passes →
         Largest (netlistOf (now (file .entry))) (atZero (netlistOf (now (file .entry)))) delay) ⌝ }
 {
     let opened = netlist::open(file);
@@ -161,7 +156,7 @@ pub fn judge(
                     formula,
                     propagation,
                 ),
-                Checked::Passes => Judged::Accepted,
+                Checked::Passes => Checked::Passes,
             }
         }
     }

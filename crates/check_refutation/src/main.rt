@@ -4,8 +4,8 @@
 // fewer than 8 bytes is `refused 1` and its length; a formula that is cut short leaves no refutation. Its room: an
 // input of 524,288 bytes (a longer one: `refused 9 524289`). What matters is refute::check's contract. Assumes
 // nothing of its own.
+use refusal::Checked;
 use refusal::Refusal;
-use refute::Checked;
 ghost use Prim.Native.Nat.{_-_, _*_, _≤_};
 ghost use lib.ListN.{length};
 

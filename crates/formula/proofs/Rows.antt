@@ -11,13 +11,13 @@ use Rattle.basics.specs.Lists.{concatMap}
 use Rattle.refusal.specs.declared.Refusal.{Refusal}
 use Rattle.refusal.specs.declared.Refusal.the-variants.{Pairs, Room}
 use Rattle.netlist.specs.declared.Shape.{Shape}
-use Rattle.netlist.specs.declared.Opened.{Opened}
 use Rattle.netlist.specs.declared.Opened.the-variants.{Accepted, Refused as Rejected}
 use Rattle.netlist.specs.Netlist.{Netlist, nodes, nodeCount}
 use Rattle.netlist.specs.File.{netlistAt}
 use Rattle.netlist.specs.Open.{openOf}
 use Rattle.netlist.specs.Holds.{Holds}
 use Rattle.netlist.proofs.Entries.{node-count}
+use Rattle.netlist.proofs.Calls.{call-accepted, call-rejected}
 use Rattle.settle.specs.Settling.{atZero}
 use Rattle.clauses.specs.Clauses.{flat}
 use Rattle.pairs.specs.declared.Listed.{Listed}
@@ -34,13 +34,14 @@ use Rattle.formula.specs.declared.Built.the-variants.{Formula, Refused}
 use Rattle.formula.specs.Formula.{formulaFor}
 use Rattle.formula.specs.Promise.{
   Building,
+  Meets,
   refused,
   numbersFor,
   countsFor,
   tableHolds,
   built,
+  buildingRows,
   buildingOf,
-  buildingBy,
   building,
 }
 use Rattle.formula.specs.Emission.{start, cellRun, Emits}
@@ -50,23 +51,19 @@ use Rattle.formula.proofs.Numbers.{Numbered, emits-numbers}
 use Rattle.formula.proofs.Table.{topsAt, tableAt, all-stand, outputs-ask, slices}
 use Rattle.formula.proofs.Whole.{whole-tokens}
 
--- an answer, and what the two slices hold, are those of a promise
-abbrev pub Meets : Building → Built → List ℕ → List ℤ → Type 0
-Meets b answer pairs formula = (answer ≡ b .answer) × ((pairs ≡ b .pairs) × (formula ≡ b .formula))
-
 -- ---- the rows
 
 module _ (net : Netlist) (target pairsRoom formulaRoom : ℕ) where
   too-many : tableHolds pairsRoom < length (pairsFor net (atZero net) target) →
       buildingOf net target pairsRoom formulaRoom ≡ refused pairsRoom formulaRoom Pairs
-  unfolding buildingOf
+  unfolding buildingOf buildingRows
   too-many h = rw (lt-ltb (tableHolds pairsRoom) (length (pairsFor net (atZero net) target)) h)
 
   no-room : length (pairsFor net (atZero net) target) ≤ tableHolds pairsRoom →
       formulaRoom < length (numbersFor net target) →
       buildingOf net target pairsRoom formulaRoom
       ≡ refused pairsRoom formulaRoom (Room (length (numbersFor net target)))
-  unfolding buildingOf
+  unfolding buildingOf buildingRows
   no-room h l =
       rw (
         le-ltb (tableHolds pairsRoom) (length (pairsFor net (atZero net) target)) h,
@@ -76,7 +73,7 @@ module _ (net : Netlist) (target pairsRoom formulaRoom : ℕ) where
   all-room : length (pairsFor net (atZero net) target) ≤ tableHolds pairsRoom →
       length (numbersFor net target) ≤ formulaRoom →
       buildingOf net target pairsRoom formulaRoom ≡ built net target pairsRoom formulaRoom
-  unfolding buildingOf
+  unfolding buildingOf buildingRows
   all-room h l =
       rw (
         le-ltb (tableHolds pairsRoom) (length (pairsFor net (atZero net) target)) h,
@@ -134,7 +131,11 @@ module _ (file : List ℕ) (shape : Shape) (target : ℕ) (table : List ℕ) (co
   unfolding numbersFor
   wrote-none pairs formula h e f =
       rw (no-room (netlistAt file shape) target (length table) (length before) room-held (omega (arith, n .numbers)))
-      (ap (λ (m : ℕ). Refused (Room m)) (n .numbers), (e, f ∙ ap (λ (m : ℕ). replicate m (pos 0)) same))
+      (record {
+        answer-is = ap (λ (m : ℕ). Refused (Room m)) (n .numbers);
+        pairs-are = e;
+        formula-is = f ∙ ap (λ (m : ℕ). replicate m (pos 0)) same;
+      })
 
   pub wrote-all : (formula : List ℤ) → to .numbers ≤ length after →
       formula ≡ take (to .numbers) after ++ replicate (length after - to .numbers) (pos 0) →
@@ -156,16 +157,16 @@ module _ (file : List ℕ) (shape : Shape) (target : ℕ) (table : List ℕ) (co
       omega (arith, held .0, node-count file shape)
       in
       let r : length after - to .numbers ≡ length before - length (flat cs) = omega (arith, n .numbers) in
-      rw (all-room (netlistAt file shape) target (length table) (length before) room-held (omega (arith, n .numbers))) (
-        ap Formula
+      rw (all-room (netlistAt file shape) target (length table) (length before) room-held (omega (arith, n .numbers)))
+      (record {
+        answer-is =
+            ap Formula
             (ap₂ (λ (a b : ℕ). made a b (to .clauses) (to .numbers)) v (held .0)
             ∙ ap₂ (λ (c d : ℕ). made (nodeCount (netlistAt file shape) + length l) (length l) c d) (n .clauses)
-            (n .numbers)),
-        (
-          held .2 ∙ ap (λ (m : ℕ). flatPairs l ++ replicate (length table - m * 2) 0) (held .0),
-          f ∙ ap₂ (λ (x : List ℤ) (m : ℕ). x ++ replicate m (pos 0)) (n .prefix (omega arith)) r,
-        ),
-      )
+            (n .numbers));
+        pairs-are = held .2 ∙ ap (λ (m : ℕ). flatPairs l ++ replicate (length table - m * 2) 0) (held .0);
+        formula-is = f ∙ ap₂ (λ (x : List ℤ) (m : ℕ). x ++ replicate m (pos 0)) (n .prefix (omega arith)) r;
+      })
 
 -- ---- the two ends of `build_from`
 
@@ -198,15 +199,20 @@ pub listed-none : (file : List ℕ) (shape : Shape) (target pairsRoom formulaRoo
     Meets (buildingOf (netlistAt file shape) target pairsRoom formulaRoom) (Refused Pairs) pairs formula
 listed-none file shape target pairsRoom formulaRoom pairs formula listed h e f =
     let w = held-too-many (pairsAt file shape target) pairsRoom pairs listed h e in
-    rw (too-many (netlistAt file shape) target pairsRoom formulaRoom (w .0)) (refl, (w .1, f))
+    rw (too-many (netlistAt file shape) target pairsRoom formulaRoom (w .0))
+    (record { answer-is = refl; pairs-are = w .1; formula-is = f })
 
 module _ (file : List ℕ) (target pairsRoom formulaRoom : ℕ) where
   pub accepted : (shape : Shape) → openOf file ≡ Accepted shape →
       building file target pairsRoom formulaRoom ≡ buildingOf (netlistAt file shape) target pairsRoom formulaRoom
-  unfolding building
-  accepted shape e = ap (λ (o : Opened). buildingBy file o target pairsRoom formulaRoom) e
+  unfolding building buildingOf
+  accepted shape e =
+      call-accepted file (λ net. buildingRows net target pairsRoom formulaRoom) (refused pairsRoom formulaRoom)
+      (λ net. built net target pairsRoom formulaRoom) e
 
   pub rejected : (refusal : Refusal) → openOf file ≡ Rejected refusal →
       building file target pairsRoom formulaRoom ≡ refused pairsRoom formulaRoom refusal
   unfolding building
-  rejected refusal e = ap (λ (o : Opened). buildingBy file o target pairsRoom formulaRoom) e
+  rejected refusal e =
+      call-rejected file (λ net. buildingRows net target pairsRoom formulaRoom) (refused pairsRoom formulaRoom)
+      (λ net. built net target pairsRoom formulaRoom) e

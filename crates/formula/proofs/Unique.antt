@@ -5,8 +5,7 @@ use mathlib.Core.List.{List}
 use Prim.Native.Nat.{ℕ}
 use lib.IntN.{ℤ}
 use Rattle.formula.specs.declared.Built.{Built}
-use Rattle.formula.specs.Promise.{building}
-use Rattle.formula.proofs.Rows.{Meets}
+use Rattle.formula.specs.Promise.{Meets, building}
 
 pub build-unique : (file : List ℕ) (target pairsRoom formulaRoom : ℕ) (answer answer′ : Built) (pairs pairs′ : List ℕ)
     (formula formula′ : List ℤ) →
@@ -14,4 +13,4 @@ pub build-unique : (file : List ℕ) (target pairsRoom formulaRoom : ℕ) (answe
     Meets (building file target pairsRoom formulaRoom) answer′ pairs′ formula′ →
     (answer ≡ answer′) × ((pairs ≡ pairs′) × (formula ≡ formula′))
 build-unique file target pairsRoom formulaRoom answer answer′ pairs pairs′ formula formula′ a b =
-    (a .0 ∙ sym (b .0), (a .1 .0 ∙ sym (b .1 .0), a .1 .1 ∙ sym (b .1 .1)))
+    (a .answer-is ∙ sym (b .answer-is), (a .pairs-are ∙ sym (b .pairs-are), a .formula-is ∙ sym (b .formula-is)))

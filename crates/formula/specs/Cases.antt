@@ -10,7 +10,7 @@ use Rattle.refusal.specs.declared.Refusal.the-variants.{Pairs, Room}
 use Rattle.netlist.specs.Kinds.{fewest, most, kindOf}
 use Rattle.netlist.specs.File.{tableBytes, shapeOf, gateAt, pinAt, cellOf, cellAt, netlistAt, pinsFrom}
 use Rattle.netlist.specs.Open.{
-  openOf,
+  netlistRows,
   firstWrong,
   countWrong,
   backWrong,
@@ -30,7 +30,7 @@ use Rattle.clauses.specs.Clauses.{flat}
 use Rattle.pairs.specs.Pairs.{asked, timesAt, pairList, flatPairs, pairsFor, placeOf}
 use Rattle.formula.specs.declared.Built.the-variants.{Formula, Refused}
 use Rattle.formula.specs.Formula.{clauseOf, gateClauses, late, pairClauses, formula, pairVariable, formulaFor}
-use Rattle.formula.specs.Promise.{Building, numbersFor, countsFor, built, buildingOf, building}
+use Rattle.formula.specs.Promise.{Building, numbersFor, countsFor, built, buildingRows, building}
 use Rattle.formula.specs.Example.{printed}
 
 -- a row
@@ -113,8 +113,8 @@ cases =
 pub hold : map (λ (c : Case). building circuitA (c .target) (c .pairsRoom) (c .formulaRoom)) cases
     ≡ map (λ (c : Case). c .leaves) cases
 unfolding
-    circuitA openOf firstWrong countWrong backWrong pinsBefore gateWrong gatePlace sumWrong pinsAt pinWrong pinPlace
-    outputWrong outputPlace fewest most kindOf tableBytes shapeOf gateAt pinAt pinsFrom cellOf cellAt netlistAt grow
-    topsOf flat asked timesAt pairList flatPairs pairsFor placeOf clauseOf gateClauses late pairClauses formula
-    pairVariable formulaFor numbersFor countsFor built buildingOf building printed gateLines cases
+    circuitA netlistRows firstWrong countWrong backWrong pinsBefore gateWrong gatePlace sumWrong pinsAt pinWrong
+    pinPlace outputWrong outputPlace fewest most kindOf tableBytes shapeOf gateAt pinAt pinsFrom cellOf cellAt
+    netlistAt grow topsOf flat asked timesAt pairList flatPairs pairsFor placeOf clauseOf gateClauses late pairClauses
+    formula pairVariable formulaFor numbersFor countsFor built buildingRows building printed gateLines cases
 hold = refl

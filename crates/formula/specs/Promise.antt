@@ -1,18 +1,16 @@
 -- What `build` answers and leaves in the two lent slices, for every input: 1..7, 10, then 9 for the formula.
--- Interface: building.
-use mathlib.Core.Bool.{cond}
-use mathlib.Core.List.{List, _++_}
+-- Interface: building, Meets.
+use mathlib.Core.Path.{_≡_}
+use mathlib.Core.List.{List, [], _∷_, _++_}
 use Prim.Native.Nat.{ℕ, _+_, _-_, _*_, _/_, min}
 use lib.Dec.{ltb}
 use lib.IntN.{ℤ, pos}
 use lib.ListN.{length, replicate}
 use Rattle.refusal.specs.declared.Refusal.{Refusal}
-use Rattle.refusal.specs.declared.Refusal.the-variants.{Pairs, Room}
-use Rattle.netlist.specs.declared.Opened.{Opened}
-use Rattle.netlist.specs.declared.Opened.the-variants.{Accepted, Refused as Rejected}
+use Rattle.refusal.specs.declared.Refusal.the-variants.{Pairs}
+use Rattle.refusal.specs.Rows.{Row, checked, unlessRefused, roomRow}
 use Rattle.netlist.specs.Netlist.{Netlist, nodeCount}
-use Rattle.netlist.specs.File.{netlistAt}
-use Rattle.netlist.specs.Open.{openOf}
+use Rattle.netlist.specs.Open.{callOver}
 use Rattle.settle.specs.Settling.{atZero}
 use Rattle.clauses.specs.Clauses.{flat}
 use Rattle.formula.specs.declared.Built.{Built}
@@ -26,6 +24,12 @@ pub record Building : Type 0 where
   pub answer : Built
   pub pairs : List ℕ
   pub formula : List ℤ
+
+-- an answer and the contents of the slices are those of a building call
+pub record Meets (promised : Building) (answer : Built) (pairs : List ℕ) (formula : List ℤ) : Type 0 where
+  pub answer-is : answer ≡ promised .answer
+  pub pairs-are : pairs ≡ promised .pairs
+  pub formula-is : formula ≡ promised .formula
 
 -- "Any refusal zeroes all slices lent for writing."
 abbrev pub refused : ℕ → ℕ → Refusal → Building
@@ -61,21 +65,20 @@ built net target pairsRoom formulaRoom =
       formula = numbersFor net target ++ replicate (formulaRoom - length (numbersFor net target)) (pos 0);
     }
 
--- of an accepted netlist: 10 PAIRS "more pairs than the table holds, or than 65,536", then 9 ROOM for the formula; each
--- row refuses when its test passes
+-- 10 PAIRS "more pairs than the table holds, or than 65,536", then 9 ROOM for the formula
+unfoldable pub buildingRows : Netlist → ℕ → ℕ → ℕ → List Row
+buildingRows net target pairsRoom formulaRoom =
+    (ltb (tableHolds pairsRoom) (length (pairsFor net (atZero net) target)), Pairs)
+    ∷ roomRow (length (numbersFor net target)) formulaRoom ∷ []
+
+-- of an accepted netlist
 unfoldable pub buildingOf : Netlist → ℕ → ℕ → ℕ → Building
 buildingOf net target pairsRoom formulaRoom =
-    cond (ltb (tableHolds pairsRoom) (length (pairsFor net (atZero net) target))) (refused pairsRoom formulaRoom Pairs)
-    (cond (ltb formulaRoom (length (numbersFor net target)))
-    (refused pairsRoom formulaRoom (Room (length (numbersFor net target))))
-    (built net target pairsRoom formulaRoom))
-
--- of what was opened
-abbrev pub buildingBy : List ℕ → Opened → ℕ → ℕ → ℕ → Building
-buildingBy file (Rejected refusal) target pairsRoom formulaRoom = refused pairsRoom formulaRoom refusal
-buildingBy file (Accepted shape) target pairsRoom formulaRoom =
-    buildingOf (netlistAt file shape) target pairsRoom formulaRoom
+    unlessRefused (checked (buildingRows net target pairsRoom formulaRoom)) (refused pairsRoom formulaRoom)
+    (built net target pairsRoom formulaRoom)
 
 -- of any bytes and any target, with room for so many numbers in the table and the formula
 unfoldable pub building : List ℕ → ℕ → ℕ → ℕ → Building
-building file target pairsRoom formulaRoom = buildingBy file (openOf file) target pairsRoom formulaRoom
+building file target pairsRoom formulaRoom =
+    callOver file (λ net. buildingRows net target pairsRoom formulaRoom) (refused pairsRoom formulaRoom)
+    (λ net. built net target pairsRoom formulaRoom)

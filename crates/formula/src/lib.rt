@@ -40,7 +40,7 @@ ghost use Rattle.formula.specs.Late.{
   Slices,
   Started,
 };
-ghost use Rattle.formula.specs.Promise.{buildingOf, building};
+ghost use Rattle.formula.specs.Promise.{Meets, buildingOf, building};
 ghost use Rattle.formula.specs.Emission.{
   coded,
   ended,
@@ -804,16 +804,8 @@ fn write(
         (length (now pairs)) (now pairs) (Count count)
         ⌝ }
     ensures { λ r. ⌜
-        r ≡ buildingOf (netlistAt (now (file .entry)) shape) target (length (now (pairs .entry)))
-        (length (now (formula .entry))) .answer
-        ⌝ }
-    ensures { λ r. ⌜
-        now (pairs .exit) ≡ buildingOf (netlistAt (now (file .entry)) shape) target (length (now (pairs .entry)))
-        (length (now (formula .entry))) .pairs
-        ⌝ }
-    ensures { λ r. ⌜
-        now (formula .exit) ≡ buildingOf (netlistAt (now (file .entry)) shape) target (length (now (pairs .entry)))
-        (length (now (formula .entry))) .formula
+        Meets (buildingOf (netlistAt (now (file .entry)) shape) target (length (now (pairs .entry)))
+        (length (now (formula .entry)))) r (now (pairs .exit)) (now (formula .exit))
         ⌝ }
 {
     let nodes = shape.inputs + shape.gates;
@@ -850,16 +842,8 @@ pub fn build_from(
 ) -> Built
     requires { ⌜ Holds (now file) shape ⌝ }
     ensures { λ r. ⌜
-        r ≡ buildingOf (netlistAt (now (file .entry)) shape) target (length (now (pairs .entry)))
-        (length (now (formula .entry))) .answer
-        ⌝ }
-    ensures { λ r. ⌜
-        now (pairs .exit) ≡ buildingOf (netlistAt (now (file .entry)) shape) target (length (now (pairs .entry)))
-        (length (now (formula .entry))) .pairs
-        ⌝ }
-    ensures { λ r. ⌜
-        now (formula .exit) ≡ buildingOf (netlistAt (now (file .entry)) shape) target (length (now (pairs .entry)))
-        (length (now (formula .entry))) .formula
+        Meets (buildingOf (netlistAt (now (file .entry)) shape) target (length (now (pairs .entry)))
+        (length (now (formula .entry)))) r (now (pairs .exit)) (now (formula .exit))
         ⌝ }
 {
     let mut tops = [0u32; 512];
@@ -880,15 +864,8 @@ pub fn build_from(
 // The formula for a target, of any bytes.
 pub fn build(file: &[u8], target: u32, pairs: &mut [u32], formula: &mut [i32]) -> Built
     ensures { λ r. ⌜
-        r ≡ building (now (file .entry)) target (length (now (pairs .entry))) (length (now (formula .entry))) .answer
-        ⌝ }
-    ensures { λ r. ⌜
-        now (pairs .exit) ≡ building (now (file .entry)) target (length (now (pairs .entry)))
-        (length (now (formula .entry))) .pairs
-        ⌝ }
-    ensures { λ r. ⌜
-        now (formula .exit) ≡ building (now (file .entry)) target (length (now (pairs .entry)))
-        (length (now (formula .entry))) .formula
+        Meets (building (now (file .entry)) target (length (now (pairs .entry)))
+        (length (now (formula .entry)))) r (now (pairs .exit)) (now (formula .exit))
         ⌝ }
 {
     let opened = netlist::open(file);

@@ -4,7 +4,7 @@
 // fewer than 8 bytes is `refused 1` and its length; a list that is cut short leaves no netlist, `refused 1 0`. Its
 // room: an input of 524,288 bytes (a longer one: `refused 9 524289`), 32,768 pairs, a formula of 524,288 numbers,
 // 100,000 variables. What matters is certificate::judge's contract. Assumes nothing of its own.
-use certificate::Judged;
+use refusal::Checked;
 use refusal::Refusal;
 ghost use Prim.Native.Nat.{_*_, _≤_};
 ghost use lib.ListN.{length};
@@ -33,8 +33,8 @@ fn show(
         &mut propagation,
     );
     match answer {
-        Judged::Accepted => console::print(b"accepted\n"),
-        Judged::Refused(refusal) => console::print_refused(refusal),
+        Checked::Passes => console::print(b"accepted\n"),
+        Checked::Refused(refusal) => console::print_refused(refusal),
     }
 }
 

@@ -2,7 +2,7 @@
 -- nothing.
 use mathlib.Core.Path.{_≡_, refl, sym, ap, _∙_, subst}
 use mathlib.Core.Bool.{Bool, true, false, not, _||_}
-use mathlib.Core.List.{List}
+use mathlib.Core.List.{List, [], _∷_}
 use Prim.Native.Nat.{ℕ, _+_, _-_, _≤_, _<_}
 use native.Mathlib.Omega.{arith}
 use lib.Dec.{ltb, eqb}
@@ -11,12 +11,16 @@ use borrow.Author.Tests.{le-ltb, lt-ltb, ltb-false, eq-eqb, ne-eqb, eqb-true}
 use Rattle.lent.specs.Bytes.{twoBytes}
 use Rattle.refusal.specs.declared.Refusal.{Refusal}
 use Rattle.refusal.specs.declared.Refusal.the-variants.{Short, Version, Count, Back, Gate, Pin, Output}
+use Rattle.refusal.specs.declared.Checked.{Checked}
+use Rattle.refusal.specs.declared.Checked.the-variants.{Passes, Refused as Fails}
+use Rattle.refusal.specs.Rows.{Row, checked, unlessRefused}
+use Rattle.refusal.proofs.Rows.{stops, goes-on, passed-by}
 use Rattle.netlist.specs.declared.Shape.{Shape}
 use Rattle.netlist.specs.declared.Opened.{Opened}
 use Rattle.netlist.specs.declared.Opened.the-variants.{Accepted, Refused}
 use Rattle.netlist.specs.File.{version, shapeOf}
 use Rattle.netlist.specs.Open.{
-  row,
+  netlistRows,
   countWrong,
   backWrong,
   pinsBefore,
@@ -30,58 +34,64 @@ use Rattle.netlist.specs.Holds.{InRange, Tables, Framed}
 use Rattle.netlist.proofs.Rows.{counts-right, tables-right}
 use Rattle.netlist.proofs.Sums.{sum-of-all}
 
--- a row refuses, or passes on
-row-stops : {b : Bool} (refusal : Refusal) (next : Opened) → b ≡ true → Refused refusal ≡ row b refusal next
-row-stops refusal next e = ap (λ (b : Bool). row b refusal next) (sym e)
+-- the answer by some rows
+abbrev answer : Shape → List Row → Opened
+answer shape rows = unlessRefused (checked rows) Refused (Accepted shape)
 
-row-passes : {b : Bool} (refusal : Refusal) (next : Opened) → b ≡ false → next ≡ row b refusal next
-row-passes refusal next e = ap (λ (b : Bool). row b refusal next) (sym e)
+-- a row refuses, or passes on
+row-stops : {b : Bool} (shape : Shape) (refusal : Refusal) (rows : List Row) → b ≡ true →
+    Refused refusal ≡ answer shape ((b, refusal) ∷ rows)
+row-stops shape refusal rows e =
+    ap (λ (c : Checked). unlessRefused c Refused (Accepted shape)) (sym (stops refusal rows e))
+
+row-passes : {b : Bool} (shape : Shape) (refusal : Refusal) (rows : List Row) → b ≡ false →
+    answer shape rows ≡ answer shape ((b, refusal) ∷ rows)
+row-passes shape refusal rows e =
+    ap (λ (c : Checked). unlessRefused c Refused (Accepted shape)) (sym (goes-on refusal rows e))
 
 module _ (file : List ℕ) (shape : Shape) where
-  -- the answer from row 7 on, 6 on, and so up to row 2
-  abbrev rowSeven : Opened
-  rowSeven = row (ltb (outputPlace file shape) (shape .outputs)) (Output (outputPlace file shape)) (Accepted shape)
+  -- the rows from 7 on, from 6 on, and so up to row 2
+  abbrev rowSeven : List Row
+  rowSeven = (ltb (outputPlace file shape) (shape .outputs), Output (outputPlace file shape)) ∷ []
 
-  abbrev rowSix : Opened
-  rowSix = row (ltb (pinPlace file shape) (shape .pins)) (Pin (pinPlace file shape)) rowSeven
+  abbrev rowSix : List Row
+  rowSix = (ltb (pinPlace file shape) (shape .pins), Pin (pinPlace file shape)) ∷ rowSeven
 
-  abbrev rowFive : Opened
-  rowFive =
-      row (ltb (gatePlace file shape) (shape .gates) || sumWrong file shape) (Gate (gatePlace file shape)) rowSix
+  abbrev rowFive : List Row
+  rowFive = (ltb (gatePlace file shape) (shape .gates) || sumWrong file shape, Gate (gatePlace file shape)) ∷ rowSix
 
-  abbrev rowFour : Opened
-  rowFour = row (backWrong file) Back rowFive
+  abbrev rowFour : List Row
+  rowFour = (backWrong file, Back) ∷ rowFive
 
-  abbrev rowThree : Opened
-  rowThree = row (ltb (countWrong shape) 4) (Count (countWrong shape)) rowFour
+  abbrev rowThree : List Row
+  rowThree = (ltb (countWrong shape) 4, Count (countWrong shape)) ∷ rowFour
 
-  abbrev rowTwo : Opened
-  rowTwo = row (not (eqb (version file) 1)) (Version (version file)) rowThree
+  abbrev rowTwo : List Row
+  rowTwo = (not (eqb (version file) 1), Version (version file)) ∷ rowThree
 
-  opens : shape ≡ shapeOf file → row (ltb (length file) 14) (Short (length file)) rowTwo ≡ openOf file
-  unfolding openOf
-  opens e =
-      ap
-      (λ (s : Shape).
-      row (ltb (length file) 14) (Short (length file))
-      (row (not (eqb (version file) 1)) (Version (version file))
-      (row (ltb (countWrong s) 4) (Count (countWrong s))
-      (row (backWrong file) Back
-      (row (ltb (gatePlace file s) (s .gates) || sumWrong file s) (Gate (gatePlace file s))
-      (row (ltb (pinPlace file s) (s .pins)) (Pin (pinPlace file s))
-      (row (ltb (outputPlace file s) (s .outputs)) (Output (outputPlace file s)) (Accepted s))))))))
-      e
+  abbrev rowOne : List Row
+  rowOne = (ltb (length file) 14, Short (length file)) ∷ rowTwo
+
+rows-are : (file : List ℕ) → rowOne file (shapeOf file) ≡ netlistRows file
+unfolding netlistRows
+rows-are file = refl
+
+opens : (file : List ℕ) (shape : Shape) → shape ≡ shapeOf file → answer shape (rowOne file shape) ≡ openOf file
+unfolding openOf
+opens file shape e =
+    ap (λ (s : Shape). answer s (rowOne file s)) e ∙ ap (answer (shapeOf file)) (rows-are file)
 
 -- ---- row 1
 
 pub short : (file : List ℕ) → length file < 14 → Refused (Short (length file)) ≡ openOf file
 short file h =
-    row-stops (Short (length file)) (rowTwo file (shapeOf file)) (lt-ltb (length file) 14 h)
+    row-stops (shapeOf file) (Short (length file)) (rowTwo file (shapeOf file)) (lt-ltb (length file) 14 h)
     ∙ opens file (shapeOf file) refl
 
-at-two : (file : List ℕ) (shape : Shape) → 14 ≤ length file → shape ≡ shapeOf file → rowTwo file shape ≡ openOf file
+at-two : (file : List ℕ) (shape : Shape) → 14 ≤ length file → shape ≡ shapeOf file →
+    answer shape (rowTwo file shape) ≡ openOf file
 at-two file shape h e =
-    row-passes (Short (length file)) (rowTwo file shape) (le-ltb (length file) 14 h) ∙ opens file shape e
+    row-passes shape (Short (length file)) (rowTwo file shape) (le-ltb (length file) 14 h) ∙ opens file shape e
 
 -- ---- row 2
 
@@ -96,7 +106,7 @@ pub version-wrong : (file : List ℕ) {v : ℕ} → 14 ≤ length file → v ≡
 version-wrong file h e d =
     let f = version-is file h e in
     ap (λ (n : ℕ). Refused (Version n)) f
-    ∙ row-stops (Version (version file)) (rowThree file (shapeOf file))
+    ∙ row-stops (shapeOf file) (Version (version file)) (rowThree file (shapeOf file))
     (ap not (ne-eqb (version file) 1 (λ q. d (f ∙ q))))
     ∙ at-two file (shapeOf file) h refl
 
@@ -108,9 +118,10 @@ pub record Long (file : List ℕ) : Type 0 where
 pub longs : (file : List ℕ) {v : ℕ} → 14 ≤ length file → v ≡ twoBytes file (length file - 2) → v ≡ 1 → Long file
 longs file h e f = record { long = h; version-one = sym (version-is file h e) ∙ f }
 
-at-three : (file : List ℕ) (shape : Shape) → Long file → shape ≡ shapeOf file → rowThree file shape ≡ openOf file
+at-three : (file : List ℕ) (shape : Shape) → Long file → shape ≡ shapeOf file →
+    answer shape (rowThree file shape) ≡ openOf file
 at-three file shape l e =
-    row-passes (Version (version file)) (rowThree file shape)
+    row-passes shape (Version (version file)) (rowThree file shape)
     (ap not (eq-eqb (version file) 1 (l .version-one)))
     ∙ at-two file shape (l .long) e
 
@@ -120,7 +131,7 @@ pub count-wrong : {file : List ℕ} {shape : Shape} {which : ℕ} → Long file 
     which ≡ countWrong shape → which < 4 → Refused (Count which) ≡ openOf file
 count-wrong {file} {shape} {which} l e f h =
     ap (λ (n : ℕ). Refused (Count n)) f
-    ∙ row-stops (Count (countWrong shape)) (rowFour file shape) (lt-ltb (countWrong shape) 4 (omega arith))
+    ∙ row-stops shape (Count (countWrong shape)) (rowFour file shape) (lt-ltb (countWrong shape) 4 (omega arith))
     ∙ at-three file shape l e
 
 -- rows 1 to 3 pass
@@ -133,16 +144,16 @@ pub ranged : {file : List ℕ} {shape : Shape} {which : ℕ} → Long file → s
     which ≡ countWrong shape → 4 ≤ which → Ranged file shape
 ranged l e f h = record { trailer = l; shape-is = e; counts = omega arith }
 
-at-four : {file : List ℕ} {shape : Shape} → Ranged file shape → rowFour file shape ≡ openOf file
+at-four : {file : List ℕ} {shape : Shape} → Ranged file shape → answer shape (rowFour file shape) ≡ openOf file
 at-four {file} {shape} r =
-    row-passes (Count (countWrong shape)) (rowFour file shape) (le-ltb (countWrong shape) 4 (r .counts))
+    row-passes shape (Count (countWrong shape)) (rowFour file shape) (le-ltb (countWrong shape) 4 (r .counts))
     ∙ at-three file shape (r .trailer) (r .shape-is)
 
 -- ---- row 4
 
 pub back-wrong : {file : List ℕ} {shape : Shape} {wrong : Bool} → Ranged file shape →
     wrong ≡ backWrong file → wrong ≡ true → Refused Back ≡ openOf file
-back-wrong {file} {shape} r e f = row-stops Back (rowFive file shape) (sym e ∙ f) ∙ at-four r
+back-wrong {file} {shape} r e f = row-stops shape Back (rowFive file shape) (sym e ∙ f) ∙ at-four r
 
 -- rows 1 to 4 pass
 pub framed : {file : List ℕ} {shape : Shape} {wrong : Bool} → Ranged file shape →
@@ -162,10 +173,10 @@ in-range {file} {shape} t = counts-right shape (t .counts)
 pub tables : {file : List ℕ} {shape : Shape} → Framed file shape → Tables file shape
 tables {file} {shape} t = subst (Tables file) (sym (t .shape-is)) (tables-right file (t .long) (t .back))
 
-at-five : {file : List ℕ} {shape : Shape} → Framed file shape → rowFive file shape ≡ openOf file
+at-five : {file : List ℕ} {shape : Shape} → Framed file shape → answer shape (rowFive file shape) ≡ openOf file
 at-five {file} {shape} t =
     let trailer : Long file = record { long = t .long; version-one = t .version-one } in
-    row-passes Back (rowFive file shape) (t .back)
+    row-passes shape Back (rowFive file shape) (t .back)
     ∙ at-four (record { trailer = trailer; shape-is = t .shape-is; counts = t .counts })
 
 -- ---- row 5
@@ -174,7 +185,7 @@ pub gate-wrong : {file : List ℕ} {shape : Shape} {place : ℕ} → Framed file
     place ≡ gatePlace file shape → place < shape .gates → Refused (Gate place) ≡ openOf file
 gate-wrong {file} {shape} {place} t e h =
     ap (λ (n : ℕ). Refused (Gate n)) e
-    ∙ row-stops (Gate (gatePlace file shape)) (rowSix file shape)
+    ∙ row-stops shape (Gate (gatePlace file shape)) (rowSix file shape)
     (ap (λ (b : Bool). b || sumWrong file shape) (lt-ltb (gatePlace file shape) (shape .gates) (omega arith)))
     ∙ at-five t
 
@@ -193,7 +204,7 @@ pub sum-wrong : {file : List ℕ} {shape : Shape} {place sum : ℕ} → Framed f
 sum-wrong {file} {shape} {place} {sum} t e l s h d =
     let f = sum-of-all file shape s l h in
     ap (λ (n : ℕ). Refused (Gate n)) e
-    ∙ row-stops (Gate (gatePlace file shape)) (rowSix file shape)
+    ∙ row-stops shape (Gate (gatePlace file shape)) (rowSix file shape)
     (sum-test file shape e h (ne-eqb (pinsBefore file shape (shape .gates)) (shape .pins) (λ q. d (f ∙ q))))
     ∙ at-five t
 
@@ -209,9 +220,9 @@ pub gated : {file : List ℕ} {shape : Shape} {place sum : ℕ} → Framed file 
 gated {file} {shape} t e l s h g =
     record { tables = t; gates = omega arith; sum = sym (sum-of-all file shape s l h) ∙ g }
 
-at-six : {file : List ℕ} {shape : Shape} → Gated file shape → rowSix file shape ≡ openOf file
+at-six : {file : List ℕ} {shape : Shape} → Gated file shape → answer shape (rowSix file shape) ≡ openOf file
 at-six {file} {shape} g =
-    row-passes (Gate (gatePlace file shape)) (rowSix file shape)
+    row-passes shape (Gate (gatePlace file shape)) (rowSix file shape)
     (sum-test file shape refl (g .gates) (eq-eqb (pinsBefore file shape (shape .gates)) (shape .pins) (g .sum)))
     ∙ at-five (g .tables)
 
@@ -221,7 +232,7 @@ pub pin-wrong : {file : List ℕ} {shape : Shape} {place : ℕ} → Gated file s
     place ≡ pinPlace file shape → place < shape .pins → Refused (Pin place) ≡ openOf file
 pin-wrong {file} {shape} {place} g e h =
     ap (λ (n : ℕ). Refused (Pin n)) e
-    ∙ row-stops (Pin (pinPlace file shape)) (rowSeven file shape)
+    ∙ row-stops shape (Pin (pinPlace file shape)) (rowSeven file shape)
     (lt-ltb (pinPlace file shape) (shape .pins) (omega arith))
     ∙ at-six g
 
@@ -234,9 +245,9 @@ pub pinned : {file : List ℕ} {shape : Shape} {place : ℕ} → Gated file shap
     place ≡ pinPlace file shape → shape .pins ≤ place → Pinned file shape
 pinned g e h = record { gates = g; pins = omega arith }
 
-at-seven : {file : List ℕ} {shape : Shape} → Pinned file shape → rowSeven file shape ≡ openOf file
+at-seven : {file : List ℕ} {shape : Shape} → Pinned file shape → answer shape (rowSeven file shape) ≡ openOf file
 at-seven {file} {shape} p =
-    row-passes (Pin (pinPlace file shape)) (rowSeven file shape)
+    row-passes shape (Pin (pinPlace file shape)) (rowSeven file shape)
     (le-ltb (pinPlace file shape) (shape .pins) (p .pins))
     ∙ at-six (p .gates)
 
@@ -246,7 +257,7 @@ pub output-wrong : {file : List ℕ} {shape : Shape} {place : ℕ} → Pinned fi
     place ≡ outputPlace file shape → place < shape .outputs → Refused (Output place) ≡ openOf file
 output-wrong {file} {shape} {place} p e h =
     ap (λ (n : ℕ). Refused (Output n)) e
-    ∙ row-stops (Output (outputPlace file shape)) (Accepted shape)
+    ∙ row-stops shape (Output (outputPlace file shape)) []
     (lt-ltb (outputPlace file shape) (shape .outputs) (omega arith))
     ∙ at-seven p
 
@@ -254,17 +265,11 @@ output-wrong {file} {shape} {place} p e h =
 pub accepted : {file : List ℕ} {shape : Shape} {place : ℕ} → Pinned file shape →
     place ≡ outputPlace file shape → shape .outputs ≤ place → Accepted shape ≡ openOf file
 accepted {file} {shape} {place} p e h =
-    row-passes (Output (outputPlace file shape)) (Accepted shape)
+    row-passes shape (Output (outputPlace file shape)) []
     (le-ltb (outputPlace file shape) (shape .outputs) (omega arith))
     ∙ at-seven p
 
 -- ---- back from an accepted file
-
--- a row that ends in acceptance has passed
-row-accepts : (b : Bool) (refusal : Refusal) (next : Opened) (shape : Shape) → row b refusal next ≡ Accepted shape →
-    (b ≡ false) × (next ≡ Accepted shape)
-row-accepts true refusal next shape e = let z : _≡_ {A = ℕ} 0 1 = cc in absurd (omega arith)
-row-accepts false refusal next shape e = (refl, e)
 
 pub not-back : (a : Bool) → not a ≡ false → a ≡ true
 not-back true e = refl
@@ -283,23 +288,40 @@ pub record Passed (file : List ℕ) (shape : Shape) : Type 0 where
   pub pins : Pinned file shape
   pub outputs : shape .outputs ≤ outputPlace file shape
 
-passed-own : (file : List ℕ) (shape : Shape) → openOf file ≡ Accepted shape →
-    Passed file (shapeOf file) × (Accepted (shapeOf file) ≡ Accepted shape)
+-- an accepted file's rows are passed, and its shape is the trailer's
+pub accepted-rows : (file : List ℕ) {shape : Shape} → openOf file ≡ Accepted shape →
+    (checked (netlistRows file) ≡ Passes) × (shapeOf file ≡ shape)
+unfolding openOf
+accepted-rows file {shape} e = go (checked (netlistRows file)) e
+  where
+    go : (c : Checked) → unlessRefused c Refused (Accepted (shapeOf file)) ≡ Accepted shape →
+        (c ≡ Passes) × (shapeOf file ≡ shape)
+    go Passes e = (refl, cc)
+    go (Fails refusal) e = let w : _≡_ {A = ℕ} 0 1 = cc in absurd (omega arith)
+
+-- a refused file's rows refuse it
+pub rejected-rows : (file : List ℕ) {refusal : Refusal} → openOf file ≡ Refused refusal →
+    checked (netlistRows file) ≡ Fails refusal
+unfolding openOf
+rejected-rows file {refusal} e = go (checked (netlistRows file)) e
+  where
+    go : (c : Checked) → unlessRefused c Refused (Accepted (shapeOf file)) ≡ Refused refusal → c ≡ Fails refusal
+    go Passes e = let w : _≡_ {A = ℕ} 0 1 = cc in absurd (omega arith)
+    go (Fails refusal) e = cc
+
+passed-own : (file : List ℕ) → checked (rowOne file (shapeOf file)) ≡ Passes → Passed file (shapeOf file)
 unfolding sumWrong
-passed-own file shape e =
+passed-own file e =
     let s : Shape = shapeOf file in
-    let one = row-accepts (ltb (length file) 14) (Short (length file)) (rowTwo file s) shape (opens file s refl ∙ e) in
-    let two = row-accepts (not (eqb (version file) 1)) (Version (version file)) (rowThree file s) shape (one .1) in
-    let three = row-accepts (ltb (countWrong s) 4) (Count (countWrong s)) (rowFour file s) shape (two .1) in
-    let four = row-accepts (backWrong file) Back (rowFive file s) shape (three .1) in
+    let one = passed-by (ltb (length file) 14) (Short (length file)) (rowTwo file s) e in
+    let two = passed-by (not (eqb (version file) 1)) (Version (version file)) (rowThree file s) (one .1) in
+    let three = passed-by (ltb (countWrong s) 4) (Count (countWrong s)) (rowFour file s) (two .1) in
+    let four = passed-by (backWrong file) Back (rowFive file s) (three .1) in
     let five =
-    row-accepts (ltb (gatePlace file s) (s .gates) || sumWrong file s) (Gate (gatePlace file s)) (rowSix file s) shape
-    (four .1)
+    passed-by (ltb (gatePlace file s) (s .gates) || sumWrong file s) (Gate (gatePlace file s)) (rowSix file s) (four .1)
     in
-    let six = row-accepts (ltb (pinPlace file s) (s .pins)) (Pin (pinPlace file s)) (rowSeven file s) shape (five .1) in
-    let seven =
-    row-accepts (ltb (outputPlace file s) (s .outputs)) (Output (outputPlace file s)) (Accepted s) shape (six .1)
-    in
+    let six = passed-by (ltb (pinPlace file s) (s .pins)) (Pin (pinPlace file s)) (rowSeven file s) (five .1) in
+    let seven = passed-by (ltb (outputPlace file s) (s .outputs)) (Output (outputPlace file s)) [] (six .1) in
     let sum =
     not-back (eqb (pinsBefore file s (s .gates)) (s .pins))
     (or-right-back (ltb (gatePlace file s) (s .gates)) (sumWrong file s) (five .0))
@@ -323,10 +345,9 @@ passed-own file shape e =
     }
     in
     let pins : Pinned file s = record { gates = gates; pins = ltb-false (pinPlace file s) (s .pins) (six .0) } in
-    (record { pins = pins; outputs = ltb-false (outputPlace file s) (s .outputs) (seven .0) }, seven .1)
+    record { pins = pins; outputs = ltb-false (outputPlace file s) (s .outputs) (seven .0) }
 
 pub passed : (file : List ℕ) (shape : Shape) → openOf file ≡ Accepted shape → Passed file shape
 passed file shape e =
-    let w = passed-own file shape e in
-    let q : shapeOf file ≡ shape = (let f : Accepted (shapeOf file) ≡ Accepted shape = w .1 in cc) in
-    subst (Passed file) q (w .0)
+    let a = accepted-rows file e in
+    subst (Passed file) (a .1) (passed-own file (ap checked (rows-are file) ∙ a .0))

@@ -11,6 +11,7 @@ use Rattle.netlist.specs.Kinds.{fewest, most, kindOf}
 use Rattle.netlist.specs.File.{tableBytes, shapeOf, gateAt, pinAt, pinsFrom, cellOf, cellAt, netlistAt, netlistOf}
 use Rattle.netlist.specs.Open.{
   openOf,
+  netlistRows,
   firstWrong,
   countWrong,
   backWrong,
@@ -51,7 +52,7 @@ describedA =
 -- they are accepted, and say that circuit
 pub decodes : (openOf circuitA ≡ Accepted (shapeOf circuitA)) × (netlistOf circuitA ≡ describedA)
 unfolding
-    circuitA describedA openOf firstWrong countWrong backWrong pinsBefore gateWrong gatePlace sumWrong pinsAt pinWrong
-    pinPlace outputWrong outputPlace fewest most kindOf tableBytes shapeOf gateAt pinAt pinsFrom cellOf cellAt
-    netlistAt
+    circuitA describedA openOf netlistRows firstWrong countWrong backWrong pinsBefore gateWrong gatePlace sumWrong
+    pinsAt pinWrong pinPlace outputWrong outputPlace fewest most kindOf tableBytes shapeOf gateAt pinAt pinsFrom
+    cellOf cellAt netlistAt
 decodes = (refl, refl)

@@ -1,16 +1,18 @@
 -- Refusals 1 to 7, row by row: the table's "when" and "place" columns, "in table order: all gates before all pins
--- before outputs". Interface: openOf.
-use mathlib.Core.Bool.{Bool, true, false, not, _&&_, _||_, cond}
-use mathlib.Core.List.{List, [], _∷_, map}
+-- before outputs". Interface: netlistRows, openOf, rowsOver, callOver.
+use mathlib.Core.Bool.{Bool, not, _&&_, _||_, cond}
+use mathlib.Core.List.{List, [], _∷_, _++_, map}
 use Prim.Native.Nat.{ℕ, zero, suc, _+_, _-_}
 use lib.Dec.{leb, ltb, eqb}
 use lib.ListN.{length}
 use Rattle.basics.specs.Lists.{upFrom, concatMap}
 use Rattle.refusal.specs.declared.Refusal.{Refusal}
 use Rattle.refusal.specs.declared.Refusal.the-variants.{Short, Version, Count, Back, Gate, Pin, Output}
+use Rattle.refusal.specs.Rows.{Row, checked, unlessRefused}
 use Rattle.netlist.specs.declared.Shape.{Shape}
 use Rattle.netlist.specs.declared.Opened.{Opened}
 use Rattle.netlist.specs.declared.Opened.the-variants.{Accepted, Refused}
+use Rattle.netlist.specs.Netlist.{Netlist}
 use Rattle.netlist.specs.Kinds.{fewest, most}
 use Rattle.netlist.specs.File.{
   trailer,
@@ -22,6 +24,7 @@ use Rattle.netlist.specs.File.{
   outputs,
   tableBytes,
   shapeOf,
+  netlistOf,
   kindAt,
   countAt,
   firstAt,
@@ -29,11 +32,6 @@ use Rattle.netlist.specs.File.{
   delayAt,
   outputAt,
 }
-
--- a row of the table: refused when, or on to the next row
-abbrev pub row : Bool → Refusal → Opened → Opened
-row true refusal next = Refused refusal
-row false refusal next = next
 
 -- how many entries stand before the first that fails a test; all of them where none does
 unfoldable pub firstWrong : {A : Type 0} → (A → Bool) → List A → ℕ
@@ -98,14 +96,26 @@ outputWrong file shape position =
 unfoldable pub outputPlace : List ℕ → Shape → ℕ
 outputPlace file shape = firstWrong (outputWrong file shape) (upFrom 0 (shape .outputs))
 
+-- 1 to 7, in the table's order
+unfoldable pub netlistRows : List ℕ → List Row
+netlistRows file =
+    let shape : Shape = shapeOf file in
+    (ltb (length file) 14, Short (length file))
+    ∷ (not (eqb (version file) 1), Version (version file))
+    ∷ (ltb (countWrong shape) 4, Count (countWrong shape))
+    ∷ (backWrong file, Back)
+    ∷ (ltb (gatePlace file shape) (shape .gates) || sumWrong file shape, Gate (gatePlace file shape))
+    ∷ (ltb (pinPlace file shape) (shape .pins), Pin (pinPlace file shape))
+    ∷ (ltb (outputPlace file shape) (shape .outputs), Output (outputPlace file shape)) ∷ []
+
 -- the answer for any list of bytes
 unfoldable pub openOf : List ℕ → Opened
-openOf file =
-    let shape : Shape = shapeOf file in
-    row (ltb (length file) 14) (Short (length file))
-    (row (not (eqb (version file) 1)) (Version (version file))
-    (row (ltb (countWrong shape) 4) (Count (countWrong shape))
-    (row (backWrong file) Back
-    (row (ltb (gatePlace file shape) (shape .gates) || sumWrong file shape) (Gate (gatePlace file shape))
-    (row (ltb (pinPlace file shape) (shape .pins)) (Pin (pinPlace file shape))
-    (row (ltb (outputPlace file shape) (shape .outputs)) (Output (outputPlace file shape)) (Accepted shape)))))))
+openOf file = unlessRefused (checked (netlistRows file)) Refused (Accepted (shapeOf file))
+
+-- the rows of a call on any list of bytes: 1 to 7, then the call's own over the netlist
+abbrev pub rowsOver : List ℕ → (Netlist → List Row) → List Row
+rowsOver file rows = netlistRows file ++ rows (netlistOf file)
+
+-- what a call on any list of bytes comes to
+abbrev pub callOver : {A : Type 0} → List ℕ → (Netlist → List Row) → (Refusal → A) → (Netlist → A) → A
+callOver file rows refused passed = unlessRefused (checked (rowsOver file rows)) refused (passed (netlistOf file))

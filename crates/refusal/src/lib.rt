@@ -21,6 +21,12 @@ pub enum Refusal {
     Witness(u32),
 }
 
+// What rows of the table say of what a call was given: it passes them all, or the first that refuses.
+pub enum Checked {
+    Passes,
+    Refused(Refusal),
+}
+
 // The row's number.
 pub fn number(refusal: Refusal) -> u32
     ensures { λ r. ⌜ r ≡ numberOf refusal ⌝ }

@@ -9,6 +9,8 @@ use lib.IntN.{ℤ}
 use Rattle.basics.specs.Lists.{all}
 use Rattle.basics.proofs.Truth.{and-left, and-right}
 use Rattle.basics.proofs.Lists.{all-at, map-each}
+use Rattle.refusal.specs.Rows.{checked, unlessRefused}
+use Rattle.refusal.proofs.Rows.{first-passes, rest-passes}
 use Rattle.clauses.specs.Clauses.{Literal, clausesFrom, clausesOf}
 use Rattle.refute.specs.Propagation.{Follows}
 use Rattle.refute.specs.Examples.{Case, cases, Following, followings}
@@ -18,21 +20,17 @@ use Rattle.refute.specs.Reading.{answerOf}
 use Rattle.refute.specs.Rows.{
   firstBeyond,
   ended,
-  andThen,
   formulaRows,
-  refutationRow,
+  refutationForm,
   firstEmpty,
   lastRow,
-  roomRow,
   refutationRows,
-  rowsOf,
+  checkRows,
 }
-use Rattle.refute.specs.declared.Checked.{Checked}
-use Rattle.refute.specs.declared.Checked.the-variants.{Passes, Refused}
+use Rattle.refusal.specs.declared.Checked.{Checked}
+use Rattle.refusal.specs.declared.Checked.the-variants.{Passes, Refused}
 use Rattle.refute.proofs.Agree.{Small, follows-is}
 use Rattle.refute.proofs.Judging.{
-  then-first,
-  then-rest,
   formula-passes,
   formula-within,
   rows-pass,
@@ -42,25 +40,25 @@ use Rattle.refute.proofs.Judging.{
 -- the answer to a check
 abbrev pub answerTo : ℕ → List ℤ → List ℤ → ℕ → Checked
 answerTo variables formula refutation room =
-    andThen (rowsOf variables formula refutation room)
+    unlessRefused (checked (checkRows variables formula refutation room)) Refused
     (answerOf (verdict (suc variables) (clausesOf formula) (clausesOf refutation)))
 
 -- it meets the promise, whatever is checked
 pub answer-exists : (variables : ℕ) (formula refutation : List ℤ) (room : ℕ) →
     Checks variables formula refutation room (answerTo variables formula refutation room)
-answer-exists variables formula refutation room = go (rowsOf variables formula refutation room) refl
+answer-exists variables formula refutation room = go (checked (checkRows variables formula refutation room)) refl
   where
-    go : (rows : Checked) → rowsOf variables formula refutation room ≡ rows →
+    go : (rows : Checked) → checked (checkRows variables formula refutation room) ≡ rows →
         Checks variables formula refutation room
-        (andThen rows (answerOf (verdict (suc variables) (clausesOf formula) (clausesOf refutation))))
+        (unlessRefused rows Refused (answerOf (verdict (suc variables) (clausesOf formula) (clausesOf refutation))))
     go (Refused refusal) e = malformed e
     go Passes e =
         judged-answer (suc variables) formula refutation e
         (formula-within
         (formula-passes variables formula
-        (then-first (formulaRows variables formula) (refutationRows variables refutation room) e)))
+        (first-passes (formulaRows variables formula) (refutationRows variables refutation room) e)))
         (rows-pass variables refutation room
-        (then-rest (formulaRows variables formula) (refutationRows variables refutation room) e) .within)
+        (rest-passes (formulaRows variables formula) (refutationRows variables refutation room) e) .within)
         refl
 
 -- ---- the rows
@@ -70,7 +68,7 @@ Meets c = Checks (c .variables) (c .formula) (c .refutation) (c .room) (c .answe
 
 computed : map (λ (c : Case). answerTo (c .variables) (c .formula) (c .refutation) (c .room)) cases
     ≡ map (λ (c : Case). c .answer) cases
-unfolding cases clausesFrom firstBeyond ended formulaRows refutationRow firstEmpty lastRow roomRow isTrue isFree
+unfolding cases clausesFrom firstBeyond ended formulaRows refutationForm firstEmpty lastRow isTrue isFree
     assign say pass refutes assert follows verdict
 computed = refl
 

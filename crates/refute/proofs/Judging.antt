@@ -41,26 +41,26 @@ use Rattle.basics.specs.Lists.{all}
 use Rattle.basics.proofs.Truth.{and-left, and-right, holds, and-both, is-true}
 use Rattle.refusal.specs.declared.Refusal.{Refusal}
 use Rattle.refusal.specs.declared.Refusal.the-variants.{Step, Formula, Refutation, Room}
+use Rattle.refusal.specs.Rows.{Row, checked, roomRow}
+use Rattle.refusal.proofs.Rows.{passed-by, refused-first, passed-first, first-passes, rest-passes}
 use Rattle.clauses.specs.Clauses.{Literal, clausesFrom, clausesOf}
 use Rattle.refute.specs.Propagation.{Verdict, passes, stops, Judged}
 use Rattle.refute.specs.Passes.{follows, next, verdict}
-use Rattle.refute.specs.Promise.{Answers, accepted, step, Checks, Tested}
+use Rattle.refute.specs.Promise.{Answers, malformed, accepted, step, Checks, Tested}
 use Rattle.refute.specs.Reading.{literalsOf, Within, Ready, NextZero, Clear, answerOf}
 use Rattle.refute.specs.Rows.{
   magnitude,
   firstBeyond,
   ended,
-  andThen,
   formulaRows,
-  refutationRow,
+  refutationForm,
   lastRow,
-  roomRow,
   refutationRows,
-  rowsOf,
+  checkRows,
   WellFormed,
 }
-use Rattle.refute.specs.declared.Checked.{Checked}
-use Rattle.refute.specs.declared.Checked.the-variants.{Passes, Refused}
+use Rattle.refusal.specs.declared.Checked.{Checked}
+use Rattle.refusal.specs.declared.Checked.the-variants.{Passes, Refused}
 use Rattle.refute.proofs.Agree.{Small, verdict-is}
 use Rattle.refute.proofs.Walking.{ended-at, part-reads, next-clause}
 
@@ -309,31 +309,24 @@ beyond-all variables (z ∷ zs) h =
         and-both (leb (magnitude z) variables) (all (λ (z : ℤ). leb (magnitude z) variables) zs)
         (le→leb (magnitude z) variables (ltb-false variables (magnitude z) e)) (rest (omega arith))
 
-apart : {A : Type 0} {r : Refusal} → Refused r ≡ Passes → A
-apart p = let w : _≡_ {A = ℕ} 0 1 = cc in absurd (omega arith)
-
-pub formula-passes : (variables : ℕ) (formula : List ℤ) → formulaRows variables formula ≡ Passes →
+pub formula-passes : (variables : ℕ) (formula : List ℤ) → checked (formulaRows variables formula) ≡ Passes →
     WellFormed variables formula
 unfolding formulaRows
 formula-passes variables formula e =
-    few (ltb 100000 variables) refl
-    (ltb (firstBeyond variables formula) (length formula)) refl (ended formula) refl e
+    let last : List Row = (not (ended formula), Formula (length formula)) ∷ [] in
+    let beyond = ltb (firstBeyond variables formula) (length formula) in
+    let p = passed-by (ltb 100000 variables) (Formula 0)
+    ((beyond, Formula (firstBeyond variables formula)) ∷ last) e in
+    let q = passed-by beyond (Formula (firstBeyond variables formula)) last (p .1) in
+    record {
+      few = ltb-false 100000 variables (p .0);
+      within = beyond-all variables formula (ltb-false (firstBeyond variables formula) (length formula) (q .0));
+      last = holds (not-back (ended formula) (passed-by (not (ended formula)) (Formula (length formula)) [] (q .1) .0));
+    }
   where
-    few : (a : Bool) → ltb 100000 variables ≡ a → (b : Bool) →
-        ltb (firstBeyond variables formula) (length formula) ≡ b → (d : Bool) → ended formula ≡ d →
-        cond a (Refused (Formula 0))
-        (cond b (Refused (Formula (firstBeyond variables formula)))
-        (cond d Passes (Refused (Formula (length formula))))) ≡ Passes → WellFormed variables formula
-    few true p b q d r e = apart e
-    few false p true q d r e = apart e
-    few false p false q false r e = apart e
-    few false p false q true r e =
-        record {
-          few = ltb-false 100000 variables p;
-          within =
-              beyond-all variables formula (ltb-false (firstBeyond variables formula) (length formula) q);
-          last = holds r;
-        }
+    not-back : (b : Bool) → not b ≡ false → b ≡ true
+    not-back true e = refl
+    not-back false e = let w : _≡_ {A = ℕ} 0 1 = cc in absurd (omega arith)
 
 beyond-length : (variables : ℕ) (zs : List ℤ) → T (all (λ (z : ℤ). leb (magnitude z) variables) zs) →
     firstBeyond variables zs ≡ length zs
@@ -348,7 +341,7 @@ beyond-length variables (z ∷ zs) t =
 
 -- and a well-formed formula passes row 11
 pub formula-accepted : (variables : ℕ) (formula : List ℤ) → WellFormed variables formula →
-    formulaRows variables formula ≡ Passes
+    checked (formulaRows variables formula) ≡ Passes
 unfolding formulaRows
 formula-accepted variables formula w =
     rw (
@@ -361,70 +354,75 @@ formula-accepted variables formula w =
 pub formula-within : {variables : ℕ} {formula : List ℤ} → WellFormed variables formula → Within (suc variables) formula
 formula-within {variables} {formula} w = all-within variables formula (w .within)
 
-refutation-passes : (variables : ℕ) (refutation : List ℤ) → refutationRow variables refutation ≡ Passes →
+refutation-passes : (variables : ℕ) (refutation : List ℤ) → checked (refutationForm variables refutation) ≡ Passes →
     Within (suc variables) refutation
-unfolding refutationRow
+unfolding refutationForm
 refutation-passes variables refutation e =
-    go (ltb (firstBeyond variables refutation) (length refutation)) refl
-    (eqb (length refutation) 0 || not (ended refutation)) e
-  where
-    go : (a : Bool) → ltb (firstBeyond variables refutation) (length refutation) ≡ a → (b : Bool) →
-        cond a (Refused (Refutation (firstBeyond variables refutation)))
-        (cond b (Refused (Refutation (length refutation))) Passes) ≡ Passes → Within (suc variables) refutation
-    go true p b e = apart e
-    go false p b e =
-        all-within variables refutation
-        (beyond-all variables refutation (ltb-false (firstBeyond variables refutation) (length refutation) p))
-
-room-passes : (variables room : ℕ) → roomRow variables room ≡ Passes → variables < room
-unfolding roomRow
-room-passes variables room e = go (ltb room (suc variables)) refl e
-  where
-    go : (a : Bool) → ltb room (suc variables) ≡ a → cond a (Refused (Room (suc variables))) Passes ≡ Passes →
-        variables < room
-    go true p e = apart e
-    go false p e = ltb-false room (suc variables) p
-
--- what passes a row and those after it
-pub then-first : (a b : Checked) → andThen a b ≡ Passes → a ≡ Passes
-then-first Passes b e = refl
-then-first (Refused r) b e = apart e
-
-pub then-rest : (a b : Checked) → andThen a b ≡ Passes → b ≡ Passes
-then-rest Passes b e = e
-then-rest (Refused r) b e = apart e
+    let beyond = firstBeyond variables refutation in
+    all-within variables refutation
+    (beyond-all variables refutation
+    (ltb-false beyond (length refutation)
+    (passed-by (ltb beyond (length refutation)) (Refutation beyond)
+    ((eqb (length refutation) 0 || not (ended refutation), Refutation (length refutation)) ∷ []) e .0)))
 
 -- the rows before 14 have nothing to say against the refutation
 pub record Fit (variables : ℕ) (refutation : List ℤ) (room : ℕ) : Type 0 where
   pub within : Within (suc variables) refutation
   pub roomy : variables < room
 
-pub rows-pass : (variables : ℕ) (refutation : List ℤ) (room : ℕ) →
-    refutationRows variables refutation room ≡ Passes → Fit variables refutation room
-rows-pass variables refutation room e =
-    let rest =
-    then-rest (refutationRow variables refutation)
-    (andThen (lastRow (clausesOf refutation)) (roomRow variables room)) e in
-    record {
-      within =
-          refutation-passes variables refutation
-          (then-first (refutationRow variables refutation)
-          (andThen (lastRow (clausesOf refutation)) (roomRow variables room)) e);
-      roomy =
-          room-passes variables room (then-rest (lastRow (clausesOf refutation)) (roomRow variables room) rest);
-    }
+module _ (variables : ℕ) (refutation : List ℤ) (room : ℕ) where
+  -- 13, and then room
+  abbrev afterForm : List Row
+  afterForm = lastRow (clausesOf refutation) ∷ roomRow (suc variables) room ∷ []
+
+  pub rows-pass : checked (refutationRows variables refutation room) ≡ Passes → Fit variables refutation room
+  rows-pass e =
+      let rest = rest-passes (refutationForm variables refutation) afterForm e in
+      let roomy = rest-passes (lastRow (clausesOf refutation) ∷ []) (roomRow (suc variables) room ∷ []) rest in
+      record {
+        within =
+            refutation-passes variables refutation
+            (first-passes (refutationForm variables refutation) afterForm e);
+        roomy =
+            ltb-false room (suc variables) (passed-by (ltb room (suc variables)) (Room (suc variables)) [] roomy .0);
+      }
+
+  -- what the rows say one after the other
+  module _ {form : Checked} (f : form ≡ checked (refutationForm variables refutation)) where
+    pub form-refuses : {refusal : Refusal} → form ≡ Refused refusal →
+        Refused refusal ≡ checked (refutationRows variables refutation room)
+    form-refuses e = sym (refused-first (refutationForm variables refutation) afterForm (sym f ∙ e))
+
+    form-passes : form ≡ Passes → checked afterForm ≡ checked (refutationRows variables refutation room)
+    form-passes e = sym (passed-first (refutationForm variables refutation) afterForm (sym f ∙ e))
+
+    pub last-refuses : {last : Checked} {refusal : Refusal} → last ≡ checked (lastRow (clausesOf refutation) ∷ []) →
+        form ≡ Passes → last ≡ Refused refusal →
+        Refused refusal ≡ checked (refutationRows variables refutation room)
+    last-refuses l e g =
+        sym (refused-first (lastRow (clausesOf refutation) ∷ []) (roomRow (suc variables) room ∷ []) (sym l ∙ g))
+        ∙ form-passes e
+
+    pub room-decides : {last roomy : Checked} → last ≡ checked (lastRow (clausesOf refutation) ∷ []) →
+        form ≡ Passes → last ≡ Passes → roomy ≡ checked (roomRow (suc variables) room ∷ []) →
+        roomy ≡ checked (refutationRows variables refutation room)
+    room-decides l e g r =
+        r
+        ∙ sym (passed-first (lastRow (clausesOf refutation) ∷ []) (roomRow (suc variables) room ∷ []) (sym l ∙ g))
+        ∙ form-passes e
 
 -- ---- the promise
 
-pub answered : {rows : Checked} {stored refutation : List (List Literal)} (v : Verdict) (a : Checked) → rows ≡ Passes →
-    Judged stored refutation v → a ≡ answerOf v → Answers rows stored refutation a
+pub answered : {rows : List Row} {stored refutation : List (List Literal)} (v : Verdict) (a : Checked) →
+    checked rows ≡ Passes → Judged stored refutation v → a ≡ answerOf v → Answers rows stored refutation a
 answered {rows} {stored} {refutation} passes a p j e =
     subst (Answers rows stored refutation) (sym e) (accepted p j)
 answered {rows} {stored} {refutation} (stops i) a p j e =
     subst (Answers rows stored refutation) (sym e) (step p j)
 
 -- the verdict that the clauses' walk came to, as the promise's
-pub judged-answer : {rows answer : Checked} (room : ℕ) (formula refutation : List ℤ) → rows ≡ Passes →
+pub judged-answer : {rows : List Row} {answer : Checked} (room : ℕ) (formula refutation : List ℤ) →
+    checked rows ≡ Passes →
     Within room formula → Within room refutation →
     answer ≡ answerOf (verdict room (clausesOf formula) (clausesOf refutation)) →
     Answers rows (clausesOf formula) (clausesOf refutation) answer
@@ -468,8 +466,9 @@ lent-back k n slice back e b =
     ap (λ (t : List ℕ). t ++ drop k slice) (b ∙ sym (part-clear k n slice e)) ∙ take-append-drop k slice ∙ e
 
 -- the test's answer as the promise's
-pub tested-answer : {rows answer : Checked} (variables n : ℕ) (formula refutation : List ℤ) (slice : List ℕ) →
-    slice ≡ replicate n 0 → WellFormed variables formula → Fit variables refutation n → rows ≡ Passes →
+pub tested-answer : {rows : List Row} {answer : Checked} (variables n : ℕ) (formula refutation : List ℤ)
+    (slice : List ℕ) →
+    slice ≡ replicate n 0 → WellFormed variables formula → Fit variables refutation n → checked rows ≡ Passes →
     answer
     ≡ answerOf (verdict (length (take (variables + 1) slice)) (clausesOf formula) (clausesOf refutation)) →
     Answers rows (clausesOf formula) (clausesOf refutation) answer
@@ -479,19 +478,25 @@ tested-answer variables n formula refutation slice e w f p a =
 
 -- ---- row 11 before the others
 
-pub refused-first : {a : Checked} {r : Refusal} (v w : ℕ) (formula refutation : List ℤ) (room : ℕ) → w ≡ v →
-    a ≡ formulaRows w formula → a ≡ Refused r → rowsOf v formula refutation room ≡ Refused r
-refused-first v w formula refutation room e f g =
-    ap (λ (t : Checked). andThen t (refutationRows v refutation room))
-    (ap (λ (n : ℕ). formulaRows n formula) (sym e) ∙ sym f ∙ g)
+-- rows that say the same have the same answers
+pub answers-as : {rows more : List Row} {stored refutation : List (List Literal)} {a : Checked} →
+    checked rows ≡ checked more → Answers rows stored refutation a → Answers more stored refutation a
+answers-as e (malformed p) = malformed (sym e ∙ p)
+answers-as e (accepted p j) = accepted (sym e ∙ p) j
+answers-as e (step p j) = step (sym e ∙ p) j
 
-pub passed-first : {a answer : Checked} (v w : ℕ) (formula refutation : List ℤ) (room : ℕ) → w ≡ v →
-    a ≡ formulaRows w formula → a ≡ Passes → Tested w formula refutation room answer →
-    Checks v formula refutation room answer
-passed-first {answer = answer} v w formula refutation room e f g t =
-    subst (λ (rows : Checked). Answers rows (clausesOf formula) (clausesOf refutation) answer)
-    (ap (λ (n : ℕ). refutationRows n refutation room) e
-    ∙ sym
-    (ap (λ (c : Checked). andThen c (refutationRows v refutation room))
-    (ap (λ (n : ℕ). formulaRows n formula) (sym e) ∙ sym f ∙ g)))
-    t
+module _ {a : Checked} (v w : ℕ) (formula refutation : List ℤ) (room : ℕ) (e : w ≡ v)
+    (f : a ≡ checked (formulaRows w formula)) where
+  formula-says : checked (formulaRows v formula) ≡ a
+  formula-says = ap (λ (n : ℕ). checked (formulaRows n formula)) (sym e) ∙ sym f
+
+  pub formula-refuses : {r : Refusal} → a ≡ Refused r → checked (checkRows v formula refutation room) ≡ Refused r
+  formula-refuses g = refused-first (formulaRows v formula) (refutationRows v refutation room) (formula-says ∙ g)
+
+  pub formula-leaves : {answer : Checked} → a ≡ Passes → Tested w formula refutation room answer →
+      Checks v formula refutation room answer
+  formula-leaves {answer} g t =
+      answers-as
+      (ap (λ (n : ℕ). checked (refutationRows n refutation room)) e
+      ∙ sym (passed-first (formulaRows v formula) (refutationRows v refutation room) (formula-says ∙ g)))
+      t

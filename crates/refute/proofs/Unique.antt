@@ -3,17 +3,17 @@
 use mathlib.Core.Path.{_≡_, refl, sym, ap, _∙_}
 use mathlib.Core.List.{List, [], _∷_, _++_}
 use Prim.Native.Nat.{ℕ, zero, suc}
-use native.Mathlib.Omega.{arith}
 use lib.IntN.{ℤ}
 use denote.Ref.{RefT, now}
+use Rattle.refusal.specs.declared.Checked.{Checked}
+use Rattle.refusal.specs.Rows.{Row}
+use Rattle.refusal.proofs.Rows.{apart}
 use Rattle.clauses.specs.Clauses.{Literal}
 use Rattle.refute.specs.Parts.{Part}
 use Rattle.refute.specs.Propagation.{Verdict, passes, stops, Judged}
 use Rattle.refute.specs.Passes.{next}
 use Rattle.refute.specs.Reading.{answerOf}
 use Rattle.refute.specs.Promise.{Answers, malformed, accepted, step, Checks, Tested}
-use Rattle.refute.specs.declared.Checked.{Checked}
-use Rattle.refute.specs.declared.Checked.the-variants.{Passes, Refused}
 
 -- one verdict
 pub judged-unique : (refutation stored : List (List Literal)) (v w : Verdict) → Judged stored refutation v →
@@ -35,11 +35,8 @@ judged-unique (c ∷ cs) stored (stops (suc i)) (stops zero) h k = absurd (k (h 
 judged-unique (c ∷ cs) stored (stops (suc i)) (stops (suc j)) h k =
     ap next (judged-unique cs (stored ++ (c ∷ [])) (stops i) (stops j) (h .1) (k .1))
 
-apart : {A : Type 0} {rows : Checked} {r : _} → rows ≡ Refused r → rows ≡ Passes → A
-apart p q = let w : _≡_ {A = ℕ} 0 1 = cc in absurd (omega arith)
-
 -- one answer
-pub answers-unique : {rows : Checked} {stored refutation : List (List Literal)} {a b : Checked} →
+pub answers-unique : {rows : List Row} {stored refutation : List (List Literal)} {a b : Checked} →
     Answers rows stored refutation a → Answers rows stored refutation b → a ≡ b
 answers-unique (malformed p) (malformed q) = sym p ∙ q
 answers-unique (malformed p) (accepted q k) = apart p q

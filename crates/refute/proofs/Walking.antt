@@ -16,8 +16,9 @@ use Rattle.clauses.specs.Clauses.{Literal, clausesFrom, clausesOf}
 use Rattle.clauses.specs.Codes.{codeOf}
 use Rattle.refute.specs.Reading.{literalOf, literalsOf, NextZero}
 use Rattle.refute.specs.Rows.{magnitude, firstBeyond, ended, firstEmpty, lastRow}
-use Rattle.refute.specs.declared.Checked.the-variants.{Passes, Refused}
+use Rattle.refusal.specs.declared.Checked.the-variants.{Passes, Refused}
 use Rattle.refusal.specs.declared.Refusal.the-variants.{Last}
+use Rattle.refusal.specs.Rows.{checked}
 use Rattle.basics.proofs.Truth.{holds}
 use Rattle.refute.proofs.Reading.{
   coded,
@@ -258,21 +259,21 @@ counting-starts list =
     }
 
 last-by : (list : List ℤ) (number : ℕ) → firstEmpty (clausesOf list) ≡ number →
-    (suc number ≡ length (clausesOf list) → ⊥) → Refused (Last number) ≡ lastRow (clausesOf list)
+    (suc number ≡ length (clausesOf list) → ⊥) → Refused (Last number) ≡ checked (lastRow (clausesOf list) ∷ [])
 unfolding lastRow
 last-by list number e n =
     rw (e, ne-eqb (suc number) (length (clausesOf list)) n)
 
 module _ {list : List ℤ} {at number : ℕ} (b : Counting list at number) where
   -- no clause is left: none was empty
-  pub none-empty : clausesOf (drop at list) ≡ [] → Refused (Last number) ≡ lastRow (clausesOf list)
+  pub none-empty : clausesOf (drop at list) ≡ [] → Refused (Last number) ≡ checked (lastRow (clausesOf list) ∷ [])
   unfolding firstEmpty
   none-empty e =
       let f : firstEmpty (clausesOf (drop at list)) ≡ 0 = ap firstEmpty e in
       let g : length (clausesOf (drop at list)) ≡ 0 = ap length e in
       last-by list number (omega (arith, b .empty)) (λ q. omega (arith, b .count))
 
-  pub none-left : length list ≤ at → Refused (Last number) ≡ lastRow (clausesOf list)
+  pub none-left : length list ≤ at → Refused (Last number) ≡ checked (lastRow (clausesOf list) ∷ [])
   unfolding clausesFrom
   none-left h = none-empty (ap clausesOf (drop-of-length-le list {i = at} h))
 
@@ -295,7 +296,7 @@ module _ {list : List ℤ} {at number : ℕ} (b : Counting list at number) where
 
     -- the empty clause is the last
     pub is-last : {end : ℕ} → to ≡ at → NextZero list (to + 1) end → length list ≤ end →
-        Passes ≡ lastRow (clausesOf list)
+        Passes ≡ checked (lastRow (clausesOf list) ∷ [])
     unfolding lastRow
     is-last e y l =
         let g : length (clausesOf (drop (to + 1) list)) ≡ 0 = ap length (no-clause y l) in
@@ -303,7 +304,7 @@ module _ {list : List ℤ} {at number : ℕ} (b : Counting list at number) where
 
     -- the empty clause is not the last
     pub not-last : {end : ℕ} → to ≡ at → NextZero list (to + 1) end → end < length list →
-        Refused (Last number) ≡ lastRow (clausesOf list)
+        Refused (Last number) ≡ checked (lastRow (clausesOf list) ∷ [])
     not-last {end} e y l =
         let g : length (clausesOf (drop (to + 1) list)) ≡ suc (length (clausesOf (drop (end + 1) list))) =
         ap length (next-clause y l) in

@@ -4,8 +4,8 @@ use mathlib.Core.List.{List, [], _∷_}
 use Prim.Native.Nat.{ℕ}
 use lib.IntN.{ℤ, pos, negsuc}
 use Rattle.refusal.specs.declared.Refusal.the-variants.{Last, Step}
-use Rattle.refute.specs.declared.Checked.{Checked}
-use Rattle.refute.specs.declared.Checked.the-variants.{Passes, Refused}
+use Rattle.refusal.specs.declared.Checked.{Checked}
+use Rattle.refusal.specs.declared.Checked.the-variants.{Passes, Refused}
 
 -- one check of a refutation
 pub record Case : Type 0 where

@@ -13,8 +13,8 @@ use Rattle.refute.specs.Passes.{Asserted, contradict, marked, follows, v
 use Rattle.refute.specs.Propagation.{Verdict, passes, stops}
 use Rattle.refute.specs.Rows.{magnitude, ended}
 use Rattle.refute.specs.declared.Scan.{Scan}
-use Rattle.refute.specs.declared.Checked.{Checked}
-use Rattle.refute.specs.declared.Checked.the-variants.{Passes, Refused}
+use Rattle.refusal.specs.declared.Checked.{Checked}
+use Rattle.refusal.specs.declared.Checked.the-variants.{Passes, Refused}
 use Rattle.refusal.specs.declared.Refusal.the-variants.{Step}
 
 -- the literal of a number that is not 0

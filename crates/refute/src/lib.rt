@@ -1,9 +1,12 @@
 // The refutation: each clause in turn follows by unit propagation, or its number is named. Assumes nothing.
+use refusal::Checked;
 use refusal::Refusal;
 ghost use mathlib.Core.Path.{_≡_};
-ghost use Prim.Native.Nat.{_/_, _≤_, _<_};
+ghost use mathlib.Core.List.{[], _∷_};
+ghost use Prim.Native.Nat.{suc, _/_, _≤_, _<_};
 ghost use lib.IntN.{pos};
 ghost use lib.ListN.{length, getD, replicate};
+ghost use Rattle.refusal.specs.Rows.{checked, roomRow};
 ghost use Rattle.clauses.specs.Clauses.{clausesOf};
 ghost use Rattle.clauses.specs.Codes.{codeOf};
 ghost use Rattle.refute.specs.Parts.{foundIn, spanOf, Part};
@@ -11,14 +14,8 @@ ghost use Rattle.refute.specs.Passes.{assert};
 ghost use Rattle.refute.specs.Promise.{Checks, Tested};
 ghost use Rattle.refute.specs.Reading.{literalsOf, listAt, looked, outcome, followsFrom, verdictOn};
 ghost use Rattle.refute.specs.Reading.{Within, NextZero, Ready, Clear};
-ghost use Rattle.refute.specs.Rows.{firstBeyond, ended, formulaRows, refutationRow, lastRow, roomRow};
+ghost use Rattle.refute.specs.Rows.{firstBeyond, ended, formulaRows, refutationForm, lastRow};
 ghost use Rattle.refute.specs.Rows.{refutationRows, WellFormed};
-
-// What a check of a refutation says.
-pub enum Checked {
-    Passes,
-    Refused(Refusal),
-}
 
 // Where a clause stands: in which of the two lists, from where, and to where.
 pub struct Span {
@@ -59,7 +56,7 @@ fn is_ended(list: &[i32]) -> bool
 
 // Row 11, FORMULA.
 fn formula_rows(variables: usize, formula: &[i32]) -> Checked
-    ensures { λ r. ⌜ r ≡ formulaRows variables (now (formula .entry)) ⌝ }
+    ensures { λ r. ⌜ r ≡ checked (formulaRows variables (now (formula .entry))) ⌝ }
 {
     if 100000 < variables {
         return Checked::Refused(Refusal::Formula(0));
@@ -75,8 +72,8 @@ fn formula_rows(variables: usize, formula: &[i32]) -> Checked
 }
 
 // Row 12, REFUTATION.
-fn refutation_row(variables: usize, refutation: &[i32]) -> Checked
-    ensures { λ r. ⌜ r ≡ refutationRow variables (now (refutation .entry)) ⌝ }
+fn refutation_form(variables: usize, refutation: &[i32]) -> Checked
+    ensures { λ r. ⌜ r ≡ checked (refutationForm variables (now (refutation .entry))) ⌝ }
 {
     let place = first_beyond(variables, refutation);
     if place < refutation.len() {
@@ -108,7 +105,7 @@ pub fn next_zero(list: &[i32], from: usize) -> usize
 
 // Row 13, LAST: the first empty clause has to be the last clause.
 fn last_row(refutation: &[i32]) -> Checked
-    ensures { λ r. ⌜ r ≡ lastRow (clausesOf (now (refutation .entry))) ⌝ }
+    ensures { λ r. ⌜ r ≡ checked (lastRow (clausesOf (now (refutation .entry))) ∷ []) ⌝ }
 {
     let mut start: usize = 0;
     let mut number: usize = 0;
@@ -132,7 +129,7 @@ fn last_row(refutation: &[i32]) -> Checked
 // Row 9, ROOM.
 fn room_row(variables: usize, room: usize) -> Checked
     requires { ⌜ variables < 4294967296 ⌝ }
-    ensures { λ r. ⌜ r ≡ roomRow variables room ⌝ }
+    ensures { λ r. ⌜ r ≡ checked (roomRow (suc variables) room ∷ []) ⌝ }
 {
     if room < variables + 1 {
         return Checked::Refused(Refusal::Room(variables + 1));
@@ -143,9 +140,9 @@ fn room_row(variables: usize, room: usize) -> Checked
 // Rows 12, 13 and 9, in this order.
 fn refutation_rows(variables: usize, refutation: &[i32], room: usize) -> Checked
     requires { ⌜ variables < 4294967296 ⌝ }
-    ensures { λ r. ⌜ r ≡ refutationRows variables (now (refutation .entry)) room ⌝ }
+    ensures { λ r. ⌜ r ≡ checked (refutationRows variables (now (refutation .entry)) room) ⌝ }
 {
-    match refutation_row(variables, refutation) {
+    match refutation_form(variables, refutation) {
         Checked::Refused(refusal) => Checked::Refused(refusal),
         Checked::Passes => match last_row(refutation) {
             Checked::Refused(refusal) => Checked::Refused(refusal),

@@ -2,7 +2,7 @@
 // the variable count, the formula's count of numbers and its numbers, the refutation's count and numbers, and the room
 // for propagation, each 4 bytes, little endian, two's complement. What is missing at the end of the input reads as 0.
 // What matters is the contract of refute::check. Assumes nothing of its own.
-use refute::Checked;
+use refusal::Checked;
 ghost use Prim.Native.Nat.{_+_, _≤_, _<_};
 ghost use lib.ListN.{length};
 

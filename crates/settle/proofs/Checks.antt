@@ -12,27 +12,33 @@ use lib.ListN.{length, getD, drop, drop-of-length-le}
 use lib.Seq.{drop-cons}
 use Rattle.refusal.specs.declared.Refusal.{Refusal}
 use Rattle.refusal.specs.declared.Refusal.the-variants.{Vector, Room}
+use Rattle.refusal.specs.declared.Checked.{Checked}
+use Rattle.refusal.specs.declared.Checked.the-variants.{Passes, Refused as Fails}
+use Rattle.refusal.specs.Rows.{Row, checked, unlessRefused, roomRow}
+use Rattle.refusal.proofs.Rows.{passed-by}
 use Rattle.netlist.specs.declared.Shape.{Shape}
-use Rattle.netlist.specs.declared.Opened.{Opened}
 use Rattle.netlist.specs.declared.Opened.the-variants.{Accepted, Refused as Rejected}
-use Rattle.netlist.specs.Netlist.{Netlist}
+use Rattle.netlist.specs.Netlist.{Netlist, nodeCount}
 use Rattle.netlist.specs.Kinds.{bit}
 use Rattle.netlist.specs.File.{netlistAt}
 use Rattle.netlist.specs.Open.{firstWrong, openOf}
 use Rattle.netlist.proofs.Entries.{net-inputs, node-count}
-use Rattle.settle.specs.declared.Given.{Given}
-use Rattle.settle.specs.declared.Given.the-variants.{Fit, Unfit}
+use Rattle.netlist.proofs.TableOrder.{not-back}
+use Rattle.netlist.proofs.Calls.{call-accepted, call-rejected}
+use Rattle.settle.specs.declared.Settled.{Settled}
+use Rattle.settle.specs.declared.Settled.the-variants.{At, Refused}
+use Rattle.settle.specs.Settling.{atZero, circuitTime}
 use Rattle.settle.specs.Promise.{
-  Evaluation,
   bits,
   byteWrong,
   refused,
   settled,
+  givenRows,
+  evaluationRows,
   evaluationOf,
-  evaluationBy,
   evaluation,
 }
-use Rattle.settle.specs.Steps.{givenOf, Usable}
+use Rattle.settle.specs.Steps.{Usable}
 
 -- ---- the first byte over 1
 
@@ -83,96 +89,93 @@ all-bits (x ∷ xs) h = go (ltb 1 x) refl h (λ l. all-bits xs l)
 
 -- ---- the checks 8 and 9
 
--- the evaluation, as the checks go
-abbrev byGiven : Netlist → List ℕ → ℕ → ℕ → Given → Evaluation
-byGiven net vector valuesRoom timesRoom Fit = settled net vector valuesRoom timesRoom
-byGiven net vector valuesRoom timesRoom (Unfit refusal) = refused valuesRoom timesRoom refusal
+-- where they are passed, the vector and the rooms are as they must be
+pub usable : {given : Checked} (shape : Shape) (vector : List ℕ) (valuesRoom timesRoom : ℕ) →
+    given ≡ checked (givenRows (shape .inputs) (shape .inputs + shape .gates) vector valuesRoom timesRoom) →
+    given ≡ Passes → Usable shape vector valuesRoom timesRoom
+unfolding givenRows byteWrong
+usable shape vector valuesRoom timesRoom g e =
+    let nodes = shape .inputs + shape .gates in
+    let times : List Row = roomRow nodes timesRoom ∷ [] in
+    let values : List Row = roomRow nodes valuesRoom ∷ times in
+    let bytes : List Row = (ltb (byteWrong vector) (length vector), Vector (byteWrong vector)) ∷ values in
+    let long = passed-by (not (eqb (length vector) (shape .inputs))) (Vector (shape .inputs)) bytes (sym g ∙ e) in
+    let small = passed-by (ltb (byteWrong vector) (length vector)) (Vector (byteWrong vector)) values (long .1) in
+    let roomy = passed-by (ltb valuesRoom nodes) (Room nodes) times (small .1) in
+    record {
+      long = eqb-true _ _ (not-back (eqb (length vector) (shape .inputs)) (long .0));
+      small = all-bits vector (ltb-false _ _ (small .0));
+      values-room = ltb-false _ _ (roomy .0);
+      times-room = ltb-false _ _ (passed-by (ltb timesRoom nodes) (Room nodes) [] (roomy .1) .0);
+    }
 
-evaluation-rows : (a b c d : Bool) (net : Netlist) (vector : List ℕ) (valuesRoom timesRoom : ℕ) (p q r s : Refusal) →
-    cond a (refused valuesRoom timesRoom p)
-    (cond b (refused valuesRoom timesRoom q)
-    (cond c (refused valuesRoom timesRoom r)
-    (cond d (refused valuesRoom timesRoom s) (settled net vector valuesRoom timesRoom))))
-    ≡ byGiven net vector valuesRoom timesRoom
-    (cond a (Unfit p) (cond b (Unfit q) (cond c (Unfit r) (cond d (Unfit s) Fit))))
-evaluation-rows true b c d net vector vs ts p q r s = refl
-evaluation-rows false true c d net vector vs ts p q r s = refl
-evaluation-rows false false true d net vector vs ts p q r s = refl
-evaluation-rows false false false true net vector vs ts p q r s = refl
-evaluation-rows false false false false net vector vs ts p q r s = refl
-
--- what was checked
-abbrev pub checked : List ℕ → Shape → List ℕ → ℕ → ℕ → Given
-checked file shape vector valuesRoom timesRoom =
-    givenOf (shape .inputs) (shape .inputs + shape .gates) vector valuesRoom timesRoom
-
-module _ (file : List ℕ) (shape : Shape) (vector : List ℕ) (valuesRoom timesRoom : ℕ) where
-  by-checks : evaluationOf (netlistAt file shape) vector valuesRoom timesRoom
-      ≡ byGiven (netlistAt file shape) vector valuesRoom timesRoom (checked file shape vector valuesRoom timesRoom)
-  unfolding evaluationOf givenOf
-  by-checks =
-      ap₂ (λ (inputs nodes : ℕ).
-      cond (not (eqb (length vector) inputs)) (refused valuesRoom timesRoom (Vector inputs))
-      (cond (ltb (byteWrong vector) (length vector)) (refused valuesRoom timesRoom (Vector (byteWrong vector)))
-      (cond (ltb valuesRoom nodes) (refused valuesRoom timesRoom (Room nodes))
-      (cond (ltb timesRoom nodes) (refused valuesRoom timesRoom (Room nodes))
-      (settled (netlistAt file shape) vector valuesRoom timesRoom)))))
-      (net-inputs file shape) (node-count file shape)
-      ∙ evaluation-rows (not (eqb (length vector) (shape .inputs))) (ltb (byteWrong vector) (length vector))
-      (ltb valuesRoom (shape .inputs + shape .gates)) (ltb timesRoom (shape .inputs + shape .gates))
-      (netlistAt file shape) vector valuesRoom timesRoom (Vector (shape .inputs)) (Vector (byteWrong vector))
-      (Room (shape .inputs + shape .gates)) (Room (shape .inputs + shape .gates))
-
-  -- unfit: refused
-  pub unfit : (given : Given) (refusal : Refusal) → given ≡ checked file shape vector valuesRoom timesRoom →
-      given ≡ Unfit refusal →
-      evaluationOf (netlistAt file shape) vector valuesRoom timesRoom ≡ refused valuesRoom timesRoom refusal
-  unfit given refusal g e =
-      by-checks ∙ ap (byGiven (netlistAt file shape) vector valuesRoom timesRoom) (sym g ∙ e)
-
-  -- fit: settled
-  pub fit : (given : Given) → given ≡ checked file shape vector valuesRoom timesRoom → given ≡ Fit →
-      evaluationOf (netlistAt file shape) vector valuesRoom timesRoom
-      ≡ settled (netlistAt file shape) vector valuesRoom timesRoom
-  fit given g e = by-checks ∙ ap (byGiven (netlistAt file shape) vector valuesRoom timesRoom) (sym g ∙ e)
-
-  -- and then the vector and the rooms are as they must be
-  pub fit-usable : (given : Given) → given ≡ checked file shape vector valuesRoom timesRoom → given ≡ Fit →
-      Usable shape vector valuesRoom timesRoom
-  unfolding givenOf byteWrong
-  fit-usable given g e =
-      go (eqb (length vector) (shape .inputs)) (ltb (byteWrong vector) (length vector))
-      (ltb valuesRoom (shape .inputs + shape .gates)) (ltb timesRoom (shape .inputs + shape .gates))
-      refl refl refl refl (sym g ∙ e)
-    where
-      go : (a b c d : Bool) → eqb (length vector) (shape .inputs) ≡ a → ltb (byteWrong vector) (length vector) ≡ b →
-          ltb valuesRoom (shape .inputs + shape .gates) ≡ c → ltb timesRoom (shape .inputs + shape .gates) ≡ d →
-          cond (not a) (Unfit (Vector (shape .inputs)))
-          (cond b (Unfit (Vector (byteWrong vector)))
-          (cond c (Unfit (Room (shape .inputs + shape .gates)))
-          (cond d (Unfit (Room (shape .inputs + shape .gates))) Fit)))
-          ≡ Fit → Usable shape vector valuesRoom timesRoom
-      go false b c d p q r s e = let w : _≡_ {A = ℕ} 0 1 = cc in absurd (omega arith)
-      go true true c d p q r s e = let w : _≡_ {A = ℕ} 0 1 = cc in absurd (omega arith)
-      go true false true d p q r s e = let w : _≡_ {A = ℕ} 0 1 = cc in absurd (omega arith)
-      go true false false true p q r s e = let w : _≡_ {A = ℕ} 0 1 = cc in absurd (omega arith)
-      go true false false false p q r s e =
-          record {
-            long = eqb-true _ _ p;
-            small = all-bits vector (ltb-false _ _ q);
-            values-room = ltb-false _ _ r;
-            times-room = ltb-false _ _ s;
-          }
+-- the evaluation of a file's netlist, as they say
+pub by-checks : {given : Checked} (file : List ℕ) (shape : Shape) (vector : List ℕ) (valuesRoom timesRoom : ℕ) →
+    given ≡ checked (givenRows (shape .inputs) (shape .inputs + shape .gates) vector valuesRoom timesRoom) →
+    evaluationOf (netlistAt file shape) vector valuesRoom timesRoom
+    ≡ unlessRefused given (refused valuesRoom timesRoom)
+    (settled (netlistAt file shape) vector valuesRoom timesRoom)
+unfolding evaluationOf
+by-checks file shape vector valuesRoom timesRoom g =
+    ap (λ (c : Checked). unlessRefused c (refused valuesRoom timesRoom)
+    (settled (netlistAt file shape) vector valuesRoom timesRoom))
+    (ap₂ (λ (inputs count : ℕ). checked (givenRows inputs count vector valuesRoom timesRoom))
+    (net-inputs file shape) (node-count file shape)
+    ∙ sym g)
 
 -- ---- the file's own checks, 1 to 7
 
 module _ (file vector : List ℕ) (valuesRoom timesRoom : ℕ) where
   pub accepted : (shape : Shape) → openOf file ≡ Accepted shape →
       evaluation file vector valuesRoom timesRoom ≡ evaluationOf (netlistAt file shape) vector valuesRoom timesRoom
-  unfolding evaluation
-  accepted shape e = ap (λ (o : Opened). evaluationBy file o vector valuesRoom timesRoom) e
+  unfolding evaluation evaluationOf
+  accepted shape e =
+      call-accepted file (λ net. evaluationRows net vector valuesRoom timesRoom) (refused valuesRoom timesRoom)
+      (λ net. settled net vector valuesRoom timesRoom) e
 
   pub rejected : (refusal : Refusal) → openOf file ≡ Rejected refusal →
       evaluation file vector valuesRoom timesRoom ≡ refused valuesRoom timesRoom refusal
   unfolding evaluation
-  rejected refusal e = ap (λ (o : Opened). evaluationBy file o vector valuesRoom timesRoom) e
+  rejected refusal e =
+      call-rejected file (λ net. evaluationRows net vector valuesRoom timesRoom) (refused valuesRoom timesRoom)
+      (λ net. settled net vector valuesRoom timesRoom) e
+
+-- ---- what an answer says of the rows 8 and 9
+
+module _ (net : Netlist) (vector : List ℕ) (valuesRoom timesRoom : ℕ) {answer : Settled}
+    (a : answer ≡ evaluationOf net vector valuesRoom timesRoom .answer) where
+  -- a refusal is theirs
+  pub answer-refused : {refusal : Refusal} → answer ≡ Refused refusal →
+      checked (evaluationRows net vector valuesRoom timesRoom) ≡ Fails refusal
+  unfolding evaluationOf settled
+  answer-refused {refusal} e = go (checked (evaluationRows net vector valuesRoom timesRoom)) (sym a ∙ e)
+    where
+      go : (c : Checked) →
+          unlessRefused c (refused valuesRoom timesRoom) (settled net vector valuesRoom timesRoom) .answer
+          ≡ Refused refusal → c ≡ Fails refusal
+      go Passes e = let w : _≡_ {A = ℕ} 0 1 = cc in absurd (omega arith)
+      go (Fails r) e = cc
+
+  -- with a time they are passed, and it is the circuit's
+  pub answer-time : {time : ℕ} → answer ≡ At time →
+      (checked (evaluationRows net vector valuesRoom timesRoom) ≡ Passes)
+      × (circuitTime net (atZero net) (bits vector) ≡ time)
+  unfolding evaluationOf settled
+  answer-time {time} e = go (checked (evaluationRows net vector valuesRoom timesRoom)) (sym a ∙ e)
+    where
+      go : (c : Checked) →
+          unlessRefused c (refused valuesRoom timesRoom) (settled net vector valuesRoom timesRoom) .answer
+          ≡ At time → (c ≡ Passes) × (circuitTime net (atZero net) (bits vector) ≡ time)
+      go Passes e = (refl, cc)
+      go (Fails r) e = let w : _≡_ {A = ℕ} 0 1 = cc in absurd (omega arith)
+
+-- a vector that passes has a value for each input
+pub vector-passes : (net : Netlist) (vector : List ℕ) (valuesRoom timesRoom : ℕ) →
+    checked (evaluationRows net vector valuesRoom timesRoom) ≡ Passes → length vector ≡ net .inputs
+unfolding givenRows
+vector-passes net vector valuesRoom timesRoom e =
+    let rest : List Row = roomRow (nodeCount net) valuesRoom ∷ roomRow (nodeCount net) timesRoom ∷ [] in
+    eqb-true _ _
+    (not-back (eqb (length vector) (net .inputs))
+    (passed-by (not (eqb (length vector) (net .inputs))) (Vector (net .inputs))
+    ((ltb (byteWrong vector) (length vector), Vector (byteWrong vector)) ∷ rest) e .0))

@@ -4,13 +4,7 @@ use mathlib.Core.Path.{_≡_, sym, _∙_}
 use mathlib.Core.List.{List}
 use Prim.Native.Nat.{ℕ}
 use Rattle.settle.specs.declared.Settled.{Settled}
-use Rattle.settle.specs.Promise.{Evaluation, evaluation}
-
--- an answer and the slices' contents are those of an evaluation: what `evaluate` and `evaluate_accepted` ensure
-pub record Meets (promised : Evaluation) (answer : Settled) (values times : List ℕ) : Type 0 where
-  pub answer-is : answer ≡ promised .answer
-  pub values-are : values ≡ promised .values
-  pub times-are : times ≡ promised .times
+use Rattle.settle.specs.Promise.{Evaluation, Meets, evaluation}
 
 -- two outcomes of one promise
 pub same-outcome : {promised : Evaluation} {a b : Settled} {values times values′ times′ : List ℕ} →

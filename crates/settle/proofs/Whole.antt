@@ -30,7 +30,7 @@ use Rattle.netlist.proofs.Entries.{outputs-from, outputs-done, node-count}
 use Rattle.netlist.proofs.Valid.{valid-outputs}
 use Rattle.settle.specs.declared.Settled.the-variants.{At}
 use Rattle.settle.specs.Settling.{last, valuesOf, timesOf, timeOf, atZero, circuitTime}
-use Rattle.settle.specs.Promise.{bits, settled}
+use Rattle.settle.specs.Promise.{Meets, bits, settled}
 use Rattle.settle.specs.Steps.{Entered, Begun, Done, Usable}
 use Rattle.settle.proofs.Argument.{last-cong}
 use Rattle.settle.proofs.Gates.{allValues, allTimes, all-values-length, all-times-length}
@@ -237,25 +237,25 @@ pub settled-is : {file : List ℕ} {shape : Shape} {vector values₀ times₀ va
     ≡ take (shape .inputs + shape .gates) values ++ replicate (length values - (shape .inputs + shape .gates)) 0 →
     timesAfter
     ≡ take (shape .inputs + shape .gates) times ++ replicate (length times - (shape .inputs + shape .gates)) 0 →
-    (At time ≡ settled (netlistAt file shape) vector (length values₀) (length times₀) .answer)
-    × ((valuesAfter ≡ settled (netlistAt file shape) vector (length values₀) (length times₀) .values)
-    × (timesAfter ≡ settled (netlistAt file shape) vector (length values₀) (length times₀) .times))
+    Meets (settled (netlistAt file shape) vector (length values₀) (length times₀)) (At time) valuesAfter timesAfter
 unfolding settled
 settled-is {file} {shape} {vector} {values₀} {times₀} {values} {times} h u d time valuesAfter timesAfter t v w =
     let long : length (bits vector) ≡ shape .inputs = length-map vector (λ byte. eqb byte 1) ∙ u .long in
     let v-long = all-values-length h (bits vector) long in
     let t-long = all-times-length h (bits vector) long in
-    let nodes = sym (node-count file shape) in (
-      ap At
+    let nodes = sym (node-count file shape) in
+    record {
+      answer-is =
+          ap At
           (t
           ∙ ap (λ (l : List ℕ). last (λ node. getD l node 0) (netlistAt file shape .outputs)) (d .times-are)
-          ∙ circuit-is h (bits vector) (drop (shape .inputs + shape .gates) times₀) t-long),
-      (
-        zeroed (allValues file shape (bits vector)) values₀ values valuesAfter _ _ v-long refl (u .values-room)
-            (d .values-are) v
-            ∙ ap (λ (n : ℕ). allValues file shape (bits vector) ++ replicate (length values₀ - n) 0) nodes,
-        zeroed (allTimes file shape (bits vector)) times₀ times timesAfter _ _ t-long refl (u .times-room)
-            (d .times-are) w
-            ∙ ap (λ (n : ℕ). allTimes file shape (bits vector) ++ replicate (length times₀ - n) 0) nodes,
-      ),
-    )
+          ∙ circuit-is h (bits vector) (drop (shape .inputs + shape .gates) times₀) t-long);
+      values-are =
+          zeroed (allValues file shape (bits vector)) values₀ values valuesAfter _ _ v-long refl (u .values-room)
+          (d .values-are) v
+          ∙ ap (λ (n : ℕ). allValues file shape (bits vector) ++ replicate (length values₀ - n) 0) nodes;
+      times-are =
+          zeroed (allTimes file shape (bits vector)) times₀ times timesAfter _ _ t-long refl (u .times-room)
+          (d .times-are) w
+          ∙ ap (λ (n : ℕ). allTimes file shape (bits vector) ++ replicate (length times₀ - n) 0) nodes;
+    }

@@ -7,7 +7,7 @@ use lib.ListN.{length}
 use Rattle.netlist.specs.Kinds.{fewest, most, kindOf}
 use Rattle.netlist.specs.File.{tableBytes, shapeOf, gateAt, pinAt, cellOf, cellAt, netlistAt, netlistOf, pinsFrom}
 use Rattle.netlist.specs.Open.{
-  openOf,
+  netlistRows,
   firstWrong,
   countWrong,
   backWrong,
@@ -24,7 +24,7 @@ use Rattle.netlist.specs.Open.{
 use Rattle.netlist.specs.Example.{circuitA}
 use Rattle.settle.specs.declared.Settled.the-variants.{At}
 use Rattle.settle.specs.Settling.{gateValue, settles, grow, valuesOf, timesOf, topsOf, atZero, circuitTime}
-use Rattle.settle.specs.Promise.{Evaluation, evaluation, evaluationOf, settled, byteWrong}
+use Rattle.settle.specs.Promise.{Evaluation, evaluation, givenRows, settled, byteWrong}
 
 -- one case: a file, a vector, and what an evaluation with just enough room gives
 pub record Case : Type 0 where
@@ -79,9 +79,9 @@ run c = evaluation (c .file) (c .vector) (length (c .expected .values)) (length 
 -- each case is evaluated as expected
 pub cases-hold : map run cases ≡ map (λ c. c .expected) cases
 unfolding
-    cases circuitA xorTwice muxOfThree openOf firstWrong countWrong backWrong pinsBefore gateWrong gatePlace sumWrong
-    pinsAt pinWrong pinPlace outputWrong outputPlace fewest most kindOf tableBytes shapeOf gateAt pinAt pinsFrom
-    cellOf cellAt netlistAt gateValue settles grow valuesOf timesOf circuitTime evaluation evaluationOf settled
+    cases circuitA xorTwice muxOfThree netlistRows firstWrong countWrong backWrong pinsBefore gateWrong gatePlace
+    sumWrong pinsAt pinWrong pinPlace outputWrong outputPlace fewest most kindOf tableBytes shapeOf gateAt pinAt
+    pinsFrom cellOf cellAt netlistAt gateValue settles grow valuesOf timesOf circuitTime evaluation givenRows settled
     byteWrong
 cases-hold = refl
 

@@ -1,18 +1,17 @@
 -- What `evaluate` answers and leaves in the two lent slices, for every input: 1..8, then 9 for values, then for times.
--- Interface: evaluation.
-use mathlib.Core.Bool.{Bool, not, cond}
-use mathlib.Core.List.{List, _++_, map}
+-- Interface: evaluation, Meets.
+use mathlib.Core.Path.{_≡_}
+use mathlib.Core.Bool.{Bool, not}
+use mathlib.Core.List.{List, [], _∷_, _++_, map}
 use Prim.Native.Nat.{ℕ, _-_}
 use lib.Dec.{eqb, ltb}
 use lib.ListN.{length, replicate}
 use Rattle.refusal.specs.declared.Refusal.{Refusal}
-use Rattle.refusal.specs.declared.Refusal.the-variants.{Vector, Room}
-use Rattle.netlist.specs.declared.Opened.{Opened}
-use Rattle.netlist.specs.declared.Opened.the-variants.{Accepted, Refused as Rejected}
+use Rattle.refusal.specs.declared.Refusal.the-variants.{Vector}
+use Rattle.refusal.specs.Rows.{Row, checked, unlessRefused, roomRow}
 use Rattle.netlist.specs.Netlist.{Netlist, nodeCount}
-use Rattle.netlist.specs.File.{netlistAt}
 use Rattle.netlist.specs.Kinds.{bit}
-use Rattle.netlist.specs.Open.{openOf, firstWrong}
+use Rattle.netlist.specs.Open.{firstWrong, callOver}
 use Rattle.settle.specs.declared.Settled.{Settled}
 use Rattle.settle.specs.declared.Settled.the-variants.{At, Refused}
 use Rattle.settle.specs.Settling.{valuesOf, timesOf, atZero, circuitTime}
@@ -26,6 +25,12 @@ pub record Evaluation : Type 0 where
   pub answer : Settled
   pub values : List ℕ
   pub times : List ℕ
+
+-- an answer and the contents of the slices are those of an evaluation
+pub record Meets (promised : Evaluation) (answer : Settled) (values times : List ℕ) : Type 0 where
+  pub answer-is : answer ≡ promised .answer
+  pub values-are : values ≡ promised .values
+  pub times-are : times ≡ promised .times
 
 -- "Any refusal zeroes all slices lent for writing."
 abbrev pub refused : ℕ → ℕ → Refusal → Evaluation
@@ -41,25 +46,34 @@ settled net vector valuesRoom timesRoom =
       times = timesOf net (atZero net) (bits vector) ++ replicate (timesRoom - nodeCount net) 0;
     }
 
--- 8 VECTOR: "length isn't I, or a byte over 1"; place "I for length, else position"
+-- how many bytes of a vector stand before the first that is over 1
 unfoldable pub byteWrong : List ℕ → ℕ
 byteWrong vector = firstWrong (ltb 1) vector
 
--- of an accepted netlist: each row refuses when its test passes; otherwise the next is asked
+-- 8 VECTOR: "length isn't I, or a byte over 1"; place "I for length, else position"
+abbrev pub vectorRows : ℕ → List ℕ → List Row
+vectorRows inputs vector =
+    (not (eqb (length vector) inputs), Vector inputs)
+    ∷ (ltb (byteWrong vector) (length vector), Vector (byteWrong vector)) ∷ []
+
+-- 8, then 9 for values, then for times, of I inputs and N nodes
+unfoldable pub givenRows : ℕ → ℕ → List ℕ → ℕ → ℕ → List Row
+givenRows inputs count vector valuesRoom timesRoom =
+    vectorRows inputs vector ++ (roomRow count valuesRoom ∷ roomRow count timesRoom ∷ [])
+
+-- of a netlist
+abbrev pub evaluationRows : Netlist → List ℕ → ℕ → ℕ → List Row
+evaluationRows net vector valuesRoom timesRoom =
+    givenRows (net .inputs) (nodeCount net) vector valuesRoom timesRoom
+
+-- of an accepted netlist
 unfoldable pub evaluationOf : Netlist → List ℕ → ℕ → ℕ → Evaluation
 evaluationOf net vector valuesRoom timesRoom =
-    cond (not (eqb (length vector) (net .inputs))) (refused valuesRoom timesRoom (Vector (net .inputs)))
-    (cond (ltb (byteWrong vector) (length vector)) (refused valuesRoom timesRoom (Vector (byteWrong vector)))
-    (cond (ltb valuesRoom (nodeCount net)) (refused valuesRoom timesRoom (Room (nodeCount net)))
-    (cond (ltb timesRoom (nodeCount net)) (refused valuesRoom timesRoom (Room (nodeCount net)))
-    (settled net vector valuesRoom timesRoom))))
-
--- of what was opened
-abbrev pub evaluationBy : List ℕ → Opened → List ℕ → ℕ → ℕ → Evaluation
-evaluationBy file (Rejected refusal) vector valuesRoom timesRoom = refused valuesRoom timesRoom refusal
-evaluationBy file (Accepted shape) vector valuesRoom timesRoom =
-    evaluationOf (netlistAt file shape) vector valuesRoom timesRoom
+    unlessRefused (checked (evaluationRows net vector valuesRoom timesRoom)) (refused valuesRoom timesRoom)
+    (settled net vector valuesRoom timesRoom)
 
 -- of any bytes and any vector, with room for so many values and times
 unfoldable pub evaluation : List ℕ → List ℕ → ℕ → ℕ → Evaluation
-evaluation file vector valuesRoom timesRoom = evaluationBy file (openOf file) vector valuesRoom timesRoom
+evaluation file vector valuesRoom timesRoom =
+    callOver file (λ net. evaluationRows net vector valuesRoom timesRoom) (refused valuesRoom timesRoom)
+    (λ net. settled net vector valuesRoom timesRoom)

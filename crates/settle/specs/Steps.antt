@@ -1,12 +1,11 @@
 -- What the functions under `evaluate` lean on and what each of them makes, step by step. Serves their contracts alone:
 -- Promise says what `evaluate` does, and does not cite it.
 use mathlib.Core.Path.{_≡_}
-use mathlib.Core.Bool.{Bool, false, not, _||_, Bool·beq, cond}
+use mathlib.Core.Bool.{Bool, false, _||_, Bool·beq, cond}
 use mathlib.Core.List.{List, [], _∷_, _++_, map}
 use Prim.Native.Nat.{ℕ, _+_, _≤_, _<_, max, min}
-use lib.Dec.{eqb, ltb}
+use lib.Dec.{eqb}
 use lib.ListN.{length, getD, take, drop, replicate}
-use Rattle.refusal.specs.declared.Refusal.the-variants.{Vector, Room}
 use Rattle.netlist.specs.declared.Kind.{Kind}
 use Rattle.netlist.specs.declared.Shape.{Shape}
 use Rattle.netlist.specs.Netlist.{Pin}
@@ -15,10 +14,8 @@ use Rattle.netlist.specs.File.{driverAt, netlistAt}
 use Rattle.netlist.specs.Holds.{Tables}
 use Rattle.settle.specs.declared.Signal.{Signal}
 use Rattle.settle.specs.declared.Scan.{Scan}
-use Rattle.settle.specs.declared.Given.{Given}
-use Rattle.settle.specs.declared.Given.the-variants.{Fit, Unfit}
 use Rattle.settle.specs.Settling.{gateValue, settles, readyAt, valuesOf, timesOf, atZero}
-use Rattle.settle.specs.Promise.{bits, byteWrong}
+use Rattle.settle.specs.Promise.{bits}
 
 -- ---- a gate's pins, over the lent slices
 
@@ -92,13 +89,3 @@ pub record Usable (shape : Shape) (vector : List ℕ) (valuesRoom timesRoom : �
   pub small : vector ≡ map bit (bits vector)
   pub values-room : shape .inputs + shape .gates ≤ valuesRoom
   pub times-room : shape .inputs + shape .gates ≤ timesRoom
-
--- ---- 8 VECTOR, then 9 ROOM for values, then for times
-
--- each row is unfit when its test passes; otherwise the next is asked
-unfoldable pub givenOf : ℕ → ℕ → List ℕ → ℕ → ℕ → Given
-givenOf inputs nodes vector valuesRoom timesRoom =
-    cond (not (eqb (length vector) inputs)) (Unfit (Vector inputs))
-    (cond (ltb (byteWrong vector) (length vector)) (Unfit (Vector (byteWrong vector)))
-    (cond (ltb valuesRoom nodes) (Unfit (Room nodes))
-    (cond (ltb timesRoom nodes) (Unfit (Room nodes)) Fit)))

@@ -3,19 +3,22 @@ use netlist::Gate;
 use netlist::Kind;
 use netlist::Opened;
 use netlist::Shape;
+use refusal::Checked;
 use refusal::Refusal;
 ghost use mathlib.Core.Path.{_≡_};
 ghost use Prim.Native.Nat.{_+_, _-_, _≤_, _<_, max, min};
 ghost use lib.Dec.{T};
-ghost use lib.ListN.{length, getD, take, replicate};
+ghost use lib.ListN.{length, getD, take};
 ghost use Rattle.netlist.specs.Kinds.{bit};
 ghost use Rattle.netlist.specs.Netlist.{takes};
 ghost use Rattle.netlist.specs.File.{pinAt, netlistAt, pinsFrom};
 ghost use Rattle.netlist.specs.Holds.{Holds};
 ghost use Rattle.netlist.specs.declared.Kind.the-variants.{Simple, Parity, Mux};
 ghost use Rattle.settle.specs.Settling.{last};
-ghost use Rattle.settle.specs.Promise.{bits, byteWrong, settled, evaluationOf, evaluation};
-ghost use Rattle.settle.specs.Steps.{pinSignal, gateSignal, withPin, givenOf};
+ghost use Rattle.refusal.specs.Rows.{checked};
+ghost use Rattle.settle.specs.Promise.{Meets, bits, byteWrong, refused, settled};
+ghost use Rattle.settle.specs.Promise.{givenRows, evaluationOf, evaluation};
+ghost use Rattle.settle.specs.Steps.{pinSignal, gateSignal, withPin};
 ghost use Rattle.settle.specs.Steps.{Wired, Entered, Begun, Done, Usable};
 
 // The circuit's settling time, or a refusal.
@@ -36,12 +39,6 @@ struct Scan {
     some: bool,
     first: u32,
     last: u32,
-}
-
-// What a call is given beside the file: fit, or refused.
-enum Given {
-    Fit,
-    Unfit(Refusal),
 }
 
 // The later of two times.
@@ -282,15 +279,8 @@ fn settle_all(
     times: &mut [u32],
 ) -> Settled
     requires { ⌜ Holds (now file) shape × Usable shape (now vector) (length (now values)) (length (now times)) ⌝ }
-    ensures { λ r. ⌜
-        r ≡ settled (netlistAt (now (file .entry)) shape) (now (vector .entry))
-        (length (now (values .entry))) (length (now (times .entry))) .answer ⌝ }
-    ensures { λ _. ⌜
-        now (values .exit) ≡ settled (netlistAt (now (file .entry)) shape) (now (vector .entry))
-        (length (now (values .entry))) (length (now (times .entry))) .values ⌝ }
-    ensures { λ _. ⌜
-        now (times .exit) ≡ settled (netlistAt (now (file .entry)) shape) (now (vector .entry))
-        (length (now (values .entry))) (length (now (times .entry))) .times ⌝ }
+    ensures { λ r. ⌜ Meets (settled (netlistAt (now (file .entry)) shape) (now (vector .entry))
+        (length (now (values .entry))) (length (now (times .entry)))) r (now (values .exit)) (now (times .exit)) ⌝ }
 {
     let nodes = shape.inputs + shape.gates;
     settle_nodes(file, shape, vector, values, times);
@@ -321,30 +311,29 @@ fn check_given(
     nodes: usize,
     values_room: usize,
     times_room: usize,
-) -> Given
-    ensures { λ r. ⌜ r ≡ givenOf inputs nodes (now (vector .entry)) «values_room» «times_room» ⌝ }
+) -> Checked
+    ensures { λ r. ⌜ r ≡ checked (givenRows inputs nodes (now (vector .entry)) «values_room» «times_room») ⌝ }
 {
     if vector.len() != inputs {
-        return Given::Unfit(Refusal::Vector(inputs));
+        return Checked::Refused(Refusal::Vector(inputs));
     }
     let wrong = first_over_one(vector);
     if wrong < vector.len() {
-        return Given::Unfit(Refusal::Vector(wrong));
+        return Checked::Refused(Refusal::Vector(wrong));
     }
     if values_room < nodes {
-        return Given::Unfit(Refusal::Room(nodes));
+        return Checked::Refused(Refusal::Room(nodes));
     }
     if times_room < nodes {
-        return Given::Unfit(Refusal::Room(nodes));
+        return Checked::Refused(Refusal::Room(nodes));
     }
-    Given::Fit
+    Checked::Passes
 }
 
 // A refusal zeroes both slices.
 fn refuse(refusal: Refusal, values: &mut [u8], times: &mut [u32]) -> Settled
-    ensures { λ r. ⌜ r ≡ Settled.Refused refusal ⌝ }
-    ensures { λ _. ⌜ now (values .exit) ≡ replicate (length (now (values .entry))) 0 ⌝ }
-    ensures { λ _. ⌜ now (times .exit) ≡ replicate (length (now (times .entry))) 0 ⌝ }
+    ensures { λ r. ⌜ Meets (refused (length (now (values .entry))) (length (now (times .entry))) refusal) r
+        (now (values .exit)) (now (times .exit)) ⌝ }
 {
     lent::zero_u8(values);
     lent::zero_u32(times);
@@ -361,37 +350,23 @@ pub fn evaluate_accepted(
     times: &mut [u32],
 ) -> Settled
     requires { ⌜ Holds (now file) shape ⌝ }
-    ensures { λ r. ⌜
-        r ≡ evaluationOf (netlistAt (now (file .entry)) shape) (now (vector .entry))
-        (length (now (values .entry))) (length (now (times .entry))) .answer ⌝ }
-    ensures { λ _. ⌜
-        now (values .exit) ≡ evaluationOf (netlistAt (now (file .entry)) shape) (now (vector .entry))
-        (length (now (values .entry))) (length (now (times .entry))) .values ⌝ }
-    ensures { λ _. ⌜
-        now (times .exit) ≡ evaluationOf (netlistAt (now (file .entry)) shape) (now (vector .entry))
-        (length (now (values .entry))) (length (now (times .entry))) .times ⌝ }
+    ensures { λ r. ⌜ Meets (evaluationOf (netlistAt (now (file .entry)) shape) (now (vector .entry))
+        (length (now (values .entry))) (length (now (times .entry)))) r (now (values .exit)) (now (times .exit)) ⌝ }
 {
     let inputs = shape.inputs;
     let nodes = inputs + shape.gates;
     let given = check_given(vector, inputs, nodes, values.len(), times.len());
     match given {
-        Given::Fit => settle_all(file, shape, vector, values, times),
-        Given::Unfit(refusal) => refuse(refusal, values, times),
+        Checked::Passes => settle_all(file, shape, vector, values, times),
+        Checked::Refused(refusal) => refuse(refusal, values, times),
     }
 }
 
 // All values and times of a circuit under a vector, and its settling time; or the first refusal of 1..8, then 9 for
 // values, then for times, and zeros.
 pub fn evaluate(file: &[u8], vector: &[u8], values: &mut [u8], times: &mut [u32]) -> Settled
-    ensures { λ r. ⌜
-        r ≡ evaluation (now (file .entry)) (now (vector .entry))
-        (length (now (values .entry))) (length (now (times .entry))) .answer ⌝ }
-    ensures { λ _. ⌜
-        now (values .exit) ≡ evaluation (now (file .entry)) (now (vector .entry))
-        (length (now (values .entry))) (length (now (times .entry))) .values ⌝ }
-    ensures { λ _. ⌜
-        now (times .exit) ≡ evaluation (now (file .entry)) (now (vector .entry))
-        (length (now (values .entry))) (length (now (times .entry))) .times ⌝ }
+    ensures { λ r. ⌜ Meets (evaluation (now (file .entry)) (now (vector .entry)) (length (now (values .entry)))
+        (length (now (times .entry)))) r (now (values .exit)) (now (times .exit)) ⌝ }
 {
     let opened = netlist::open(file);
     match opened {

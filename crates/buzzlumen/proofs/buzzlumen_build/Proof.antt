@@ -11,7 +11,7 @@ build-requires : tie.Need-build-requires
 build-requires c κs = search needs
 
 numbers-of-built-requires : tie.Need-numbers-of-built-requires
-numbers-of-built-requires c κs = rw (c .before .before .before .build .ensures .0) (small _ _ _ _)
+numbers-of-built-requires c κs = rw (c .before .before .before .build .ensures .answer-is) (small _ _ _ _)
 
 same-length : tie.Need-same-length
 same-length c = search needs
@@ -22,7 +22,11 @@ same-length-2 c = search needs
 returns : tie.Need-returns
 returns c =
     let e = c .before .before .before .before .build .ensures in
-    (c .numbers-of-built .ensures ∙ ap formedOf (e .0), e .1)
+    record {
+      numbers-are = c .numbers-of-built .ensures ∙ ap formedOf (e .answer-is);
+      pairs-are = e .pairs-are;
+      formula-is = e .formula-is;
+    }
 
 pub buzzlumen-build-spec : {M : Type 1} → statement M
 buzzlumen-build-spec =

@@ -21,7 +21,11 @@ same-length-2 c = search needs
 returns : tie.Need-returns
 returns c =
     let e = c .before .before .before .before .before .evaluate .ensures in
-    (c .numbers-of-settled .ensures ∙ ap evaluatedOf (e .0), e .1)
+    record {
+      numbers-are = c .numbers-of-settled .ensures ∙ ap evaluatedOf (e .answer-is);
+      values-are = e .values-are;
+      times-are = e .times-are;
+    }
 
 pub buzzlumen-evaluate-spec : {M : Type 1} → statement M
 buzzlumen-evaluate-spec =

@@ -10,8 +10,8 @@ use Rattle.buzzlumen.proofs.buzzlumen_judge.Tie as tie
 judge-requires : tie.Need-judge-requires
 judge-requires c κs = search needs
 
-numbers-of-judged-requires : tie.Need-numbers-of-judged-requires
-numbers-of-judged-requires c κs = search needs
+numbers-of-checked-requires : tie.Need-numbers-of-checked-requires
+numbers-of-checked-requires c κs = search needs
 
 same-length : tie.Need-same-length
 same-length c = search needs
@@ -31,7 +31,7 @@ same-length-5 c = search needs
 returns : tie.Need-returns
 returns c =
     let j = c .before .before .before .before .before .before .before .before .before .before .judge in
-    let is = c .numbers-of-judged .ensures in
+    let is = c .numbers-of-checked .ensures in
     record {
       answer = j .result;
       judges = j .ensures .0;
@@ -44,7 +44,7 @@ buzzlumen-judge-spec =
     tie.close
     (tie.spec
     judge-requires
-    numbers-of-judged-requires
+    numbers-of-checked-requires
     same-length
     same-length-2
     same-length-3

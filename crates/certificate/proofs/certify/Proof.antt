@@ -5,11 +5,9 @@ use native.Mathlib.Numerals.{add-one}
 use native.Mathlib.Omega.{arith}
 use borrow.Author.Needs.{needs}
 use Rattle.certificate.proofs.Steps.{
-  row-passes,
-  row-late,
-  row-refused,
   time-small,
-  certified-refused,
+  certified-unsettled,
+  certified-late,
   certified-tested,
 }
 use Rattle.certificate.proofs.certify.Statement.{statement}
@@ -29,7 +27,7 @@ add-refutes c =
     let told = c .before .before in
     let call = told .before .before .before .before .before .before in
     let start = call .before .before .before .before .before .before .before .before .before in
-    let e = call .evaluate-accepted .ensures .0 in
+    let e = call .evaluate-accepted .ensures .answer-is in
     let h = time-small _ _ _ _ (start .pre .valid) e (told .settled2 .given .1) in
     omega (arith, c .if1 .taken)
 
@@ -57,7 +55,7 @@ returns c =
     let at = call .before .before .before .before in
     let told = at .before .before in
     let e = told .before .before .before .before .before .before .evaluate-accepted .ensures in
-    certified-tested (e .0) (row-passes _ (told .settled2 .given .1) (at .if1 .taken)) (e .1 .0) (e .1 .1)
+    certified-tested (e .answer-is) (told .settled2 .given .1) (at .if1 .taken) (e .values-are) (e .times-are)
     (same-length c) (same-length-2 c) (add-one _) (call .refutes .ensures)
 
 same-length-6 : tie.Need-same-length-6
@@ -70,7 +68,7 @@ returns-2 : tie.Need-returns-2
 returns-2 c =
     let told = c .before in
     let e = told .before .before .before .before .before .before .evaluate-accepted .ensures in
-    certified-refused (e .0) (row-refused _ (told .settled .given .1)) (same-length-6 c) (same-length-7 c) refl
+    certified-unsettled (e .answer-is) (told .settled .given .1) (same-length-6 c) (same-length-7 c) refl
     refl refl
 
 same-length-8 : tie.Need-same-length-8
@@ -83,7 +81,7 @@ returns-3 : tie.Need-returns-3
 returns-3 c =
     let told = c .before .before in
     let e = told .before .before .before .before .before .before .evaluate-accepted .ensures in
-    certified-refused (e .0) (row-late _ (told .settled2 .given .1) (c .if1 .left)) (same-length-8 c)
+    certified-late (e .answer-is) (told .settled2 .given .1) (c .if1 .left) (same-length-8 c)
     (same-length-9 c) refl refl refl
 
 pub certify-spec : {M : Type 1} → statement M

@@ -21,7 +21,7 @@ slice-reshare-prefix-test c =
     let call = told .before .before .before .before .before in
     let start = call .before .before .before .before .before .before in
     let e = call .build-from .ensures in
-    formed _ _ (start .pre .valid) (e .0) (e .1 .1) (told .built2 .given .1) .fit
+    formed _ _ (start .pre .valid) (e .answer-is) (e .formula-is) (told .built2 .given .1) .fit
 
 slice-aggregate-test : tie.Need-slice-aggregate-test
 slice-aggregate-test c =
@@ -29,7 +29,7 @@ slice-aggregate-test c =
     let call = told .before .before .before .before .before in
     let start = call .before .before .before .before .before .before in
     let e = call .build-from .ensures in
-    formed _ _ (start .pre .valid) (e .0) (e .1 .1) (told .built2 .given .1) .front-long
+    formed _ _ (start .pre .valid) (e .answer-is) (e .formula-is) (told .built2 .given .1) .front-long
 
 test-requires : tie.Need-test-requires
 test-requires c κs =
@@ -37,7 +37,7 @@ test-requires c κs =
     let call = told .before .before .before .before .before in
     let start = call .before .before .before .before .before .before in
     let e = call .build-from .ensures in
-    formed _ _ (start .pre .valid) (e .0) (e .1 .1) (told .built2 .given .1) .well-formed
+    formed _ _ (start .pre .valid) (e .answer-is) (e .formula-is) (told .built2 .given .1) .well-formed
 
 same-length : tie.Need-same-length
 same-length c = search needs
@@ -49,7 +49,8 @@ returns : tie.Need-returns
 returns c =
     let told = c .before in
     let e = told .before .before .before .before .before .build-from .ensures in
-    refutes-refused (e .0) (e .1 .0) (e .1 .1) (same-length c) (same-length-2 c) refl (told .built .given .1)
+    refutes-refused (e .answer-is) (e .pairs-are) (e .formula-is) (same-length c) (same-length-2 c) refl
+    (told .built .given .1)
 
 same-length-3 : tie.Need-same-length-3
 same-length-3 c = search needs
@@ -67,8 +68,8 @@ returns-2 c =
     let call = told .before .before .before .before .before in
     let start = call .before .before .before .before .before .before in
     let e = call .build-from .ensures in
-    refutes-tested (start .pre .valid) (e .0) (e .1 .0) (e .1 .1) (same-length-3 c) (same-length-4 c) (same-length-5 c)
-    (told .built2 .given .1) (test .0) (test .1)
+    refutes-tested (start .pre .valid) (e .answer-is) (e .pairs-are) (e .formula-is) (same-length-3 c)
+    (same-length-4 c) (same-length-5 c) (told .built2 .given .1) (test .0) (test .1)
 
 pub refutes-spec : {M : Type 1} → statement M
 refutes-spec =

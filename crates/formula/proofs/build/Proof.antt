@@ -59,7 +59,8 @@ returns-2 c =
     let args = c .before .before .before .before .before .before .before .before .before .before .before .before .before
     .args in
     rw (rejected (args .file .now) (args .target) (length (args .pairs .now)) (length (args .formula .now)) _
-    (sym («open» .ensures) ∙ opened2 .given .1)) (refl, (zero-u32 .ensures, c .before .zero-i32 .ensures))
+    (sym («open» .ensures) ∙ opened2 .given .1))
+    (record { answer-is = refl; pairs-are = zero-u32 .ensures; formula-is = c .before .zero-i32 .ensures })
 
 pub build-spec : {M : Type 1} → statement M
 build-spec =

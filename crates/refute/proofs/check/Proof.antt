@@ -30,7 +30,7 @@ same-length c = search needs
 
 returns : tie.Need-returns
 returns c = (
-  malformed (J.refused-first _ _ _ _ _ (c .before .before .before .before .before .before .before .before .widen
+  malformed (J.formula-refuses _ _ _ _ _ (c .before .before .before .before .before .before .before .before .widen
       .ensures .0) (c .before .before .before .before .before .before .before .formula-rows .ensures)
       (c .before .before .before .before .before .refusal .given .1)),
   c .before .before .zero-u8 .ensures,
@@ -41,7 +41,7 @@ same-length-2 c = search needs
 
 returns-2 : tie.Need-returns-2
 returns-2 c = (
-  J.passed-first _ _ _ _ _ (c .before .before .before .before .before .before .before .widen .ensures .0)
+  J.formula-leaves _ _ _ _ _ (c .before .before .before .before .before .before .before .widen .ensures .0)
       (c .before .before .before .before .before .before .formula-rows .ensures)
       (c .before .before .before .before .enum-told .given .1) (c .before .before .test .ensures .0),
   c .before .before .test .ensures .1,

@@ -6,6 +6,7 @@ use native.Mathlib.Nat.{sub-zero}
 use native.Mathlib.Omega.{arith}
 use lib.ListN.{length, replicate}
 use lib.Seq.{length-take-le}
+use Rattle.refusal.specs.Rows.{checked}
 use Rattle.refute.specs.Promise.{malformed}
 use Rattle.refute.specs.Rows.{refutationRows}
 use Rattle.refute.proofs.Judging as J
@@ -27,9 +28,9 @@ long c = J.clear-long (length (c .before .before .before .args .propagation .now
 -- what the rows before 14 say
 rows : (c : tie.After-refutation-rows) →
     c .refutation-rows .result
-    ≡ refutationRows (c .before .before .before .before .before .before .args .variables)
+    ≡ checked (refutationRows (c .before .before .before .before .before .before .args .variables)
     (c .before .before .before .before .before .before .args .refutation .now)
-    (length (c .before .before .before .before .before .before .args .propagation .now))
+    (length (c .before .before .before .before .before .before .args .propagation .now)))
 rows c = rw (long (c .before .before .before)) at (c .refutation-rows .ensures)
 
 fit : (c : tie.After-enum-told) →

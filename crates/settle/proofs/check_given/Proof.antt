@@ -2,19 +2,19 @@
 -- Assumes nothing.
 use borrow.Author.Needs.{needs}
 use borrow.Author.Tests.{lt-ltb, le-ltb, eq-eqb, ne-eqb}
-use Rattle.settle.specs.Steps.{givenOf}
+use Rattle.settle.specs.Promise.{givenRows}
 use Rattle.settle.proofs.check_given.Statement.{statement}
 use Rattle.settle.proofs.check_given.Tie as tie
 
 returns : tie.Need-returns
-unfolding givenOf
+unfolding givenRows
 returns c = simp (ne-eqb _ _ (c .if1 .taken))
 
 first-over-one-requires : tie.Need-first-over-one-requires
 first-over-one-requires c κs = search needs
 
 returns-2 : tie.Need-returns-2
-unfolding givenOf
+unfolding givenRows
 returns-2 c =
     simp (
       eq-eqb _ _ (c .before .before .if1 .left),
@@ -23,7 +23,7 @@ returns-2 c =
     )
 
 returns-3 : tie.Need-returns-3
-unfolding givenOf
+unfolding givenRows
 returns-3 c =
     simp (
       eq-eqb _ _ (c .before .before .before .if1 .left),
@@ -33,7 +33,7 @@ returns-3 c =
     )
 
 returns-4 : tie.Need-returns-4
-unfolding givenOf
+unfolding givenRows
 returns-4 c =
     simp (
       eq-eqb _ _ (c .before .before .before .before .if1 .left),
@@ -44,7 +44,7 @@ returns-4 c =
     )
 
 returns-5 : tie.Need-returns-5
-unfolding givenOf
+unfolding givenRows
 returns-5 c =
     simp (
       eq-eqb _ _ (c .before .before .before .before .if1 .left),

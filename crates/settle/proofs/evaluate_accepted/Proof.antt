@@ -21,9 +21,8 @@ settle-all-requires c κs =
     let check = told .before .before in
     let s = check .before .before .before .before .before .before in (
       s .pre,
-      L.fit-usable (s .args .file .now) (s .args .shape) (s .args .vector .now) (length (s .args .values .now))
-          (length (s .args .times .now)) (check .check-given .result) (check .check-given .ensures)
-          (told .enum-told .given .1),
+      L.usable (s .args .shape) (s .args .vector .now) (length (s .args .values .now)) (length (s .args .times .now))
+          (check .check-given .ensures) (told .enum-told .given .1),
     )
 
 enum-known-given : tie.Need-enum-known-given
@@ -44,10 +43,11 @@ returns c =
     let told = settle .before .before .before in
     let check = told .before .before in
     let s = check .before .before .before .before .before .before in
-    rw
-    (L.fit (s .args .file .now) (s .args .shape) (s .args .vector .now) (length (s .args .values .now))
-    (length (s .args .times .now)) (check .check-given .result) (check .check-given .ensures)
-    (told .enum-told .given .1))
+    rw (
+      L.by-checks (s .args .file .now) (s .args .shape) (s .args .vector .now) (length (s .args .values .now))
+          (length (s .args .times .now)) (check .check-given .ensures),
+      told .enum-told .given .1,
+    )
     (settle .settle-all .ensures)
 
 same-length-3 : tie.Need-same-length-3
@@ -62,10 +62,11 @@ returns-2 c =
     let known = refuse .before .before .before .before in
     let check = known .before .before in
     let s = check .before .before .before .before .before .before in
-    rw
-    (L.unfit (s .args .file .now) (s .args .shape) (s .args .vector .now) (length (s .args .values .now))
-    (length (s .args .times .now)) (check .check-given .result) _ (check .check-given .ensures)
-    (known .given .given .1))
+    rw (
+      L.by-checks (s .args .file .now) (s .args .shape) (s .args .vector .now) (length (s .args .values .now))
+          (length (s .args .times .now)) (check .check-given .ensures),
+      known .given .given .1,
+    )
     (refuse .refuse .ensures)
 
 pub evaluate-accepted-spec : {M : Type 1} → statement M

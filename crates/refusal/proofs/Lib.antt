@@ -1,0 +1,2 @@
+-- The laws of rows that are asked in turn.
+pub mod Rows
