@@ -26,7 +26,7 @@
  * which there are at most variables + 1 for a clause; judge with all of these. docs/PERFORMANCE.md has figures.
  *
  * THE NETLIST FILE is read from its end; a number of several bytes has its lowest byte first. The last 14 bytes: back
- * in four, then I (inputs, 1..64), G (gates, 0..448), P (pins, 0..2048), Q (outputs, 1..64) and version (1) in two each.
+ * in four, then I (inputs, 1..64), G (gates, 0..448), P (pins, 0..2048), Q (outputs, 1..64), version (1) in two each.
  * Right before them lie three tables, 4G+4P+2Q bytes together, which is what back says; bytes in front of these are a
  * note that is not read.
  * - A gate has 4 bytes: its kind, how many pins it has, and in two bytes its first pin: the total of all pin counts

@@ -1,8 +1,8 @@
 /* Prints how many bytes of stack each function of the library takes, one line a function.
  *
- * Each is called once on circuit A by a thread whose stack was filled with a pattern; what lies below the caller's frame
- * and lost the pattern was used. The functions don't recurse and no frame's size depends on the input, so that one
- * accepted call shows all. It ends with 1 where a call is not accepted. Assumes a stack that grows down.
+ * Each is called once on circuit A by a thread whose stack was filled with a pattern; what lies below the caller's
+ * frame and lost the pattern was used. The functions don't recurse and no frame's size depends on the input, so that
+ * one accepted call shows all. It ends with 1 where a call is not accepted. Assumes a stack that grows down.
  */
 #include "buzzlumen.h"
 
