@@ -275,8 +275,8 @@ def simple_clauses(node, drivers, c, k):
 
 
 def pair_clauses(pair, number, gate, part):
-    """The clauses of a pair with variable `number` (rule F12); `part` gives the part of a clause that stands for a node's
-    being late at a time.
+    """The clauses of a pair with variable `number` (rule F12); `part` gives, of a node and a time, the part of a clause
+    that says that the node is late then.
     """
     _, t = pair
     drivers_late = [part(pin.driver, t - pin.delay) for pin in gate.pins]
