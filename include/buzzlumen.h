@@ -1,28 +1,45 @@
 /* Buzzlumen for a C host: evaluate a circuit, build its timing formula, check a refutation, judge a delay certificate.
  *
- * Four functions on numbers and slices. A slice is a pointer and then its length, in elements and not in bytes. No
- * function keeps a pointer, allocates, or calls back. A slice that is lent for writing must not overlap any other.
- * A pointer must not be null, also where its length is 0. Calling convention: x86-64 System V.
+ * Four functions on numbers and slices. A slice is a pointer and then its length, in elements and not in bytes.
+ * Calling convention: x86-64 System V. The rules behind them are docs/RULES.md; here stands what a caller needs of it.
  *
- * What a call leaves in the slices lent for writing is fixed whole:
+ * WHAT A CALL LEAVES in the slices lent for writing is fixed whole:
  * - on a refusal all of them hold zeros;
  * - on success each holds its results from the front and zeros behind; propagation holds zeros only.
  * How long they must be stands at each function. 512 values, 512 times and 131,072 numbers for pairs are always enough;
  * the length of a formula is best asked for: lend none, and refusal 9 names it.
  *
- * The netlist file (all numbers little endian) ends in a trailer of 14 bytes: back (4 bytes), inputs I, gates G,
- * pins P, outputs Q, version (2 bytes each; version is 1). I is 1..64, G 0..448, P 0..2048, Q 1..64. Back is
- * 4G+4P+2Q, the bytes from the first table to the trailer. The tables, in order:
- * - gates, 4 bytes: kind, pin count (1 byte each), number of its first pin (2 bytes), the sum of the counts before;
- * - pins, 4 bytes: driving node (2 bytes), delay 0..999 (2 bytes);
- * - outputs, 2 bytes: node numbers, strictly rising.
- * Bytes before the tables are a note and are ignored. Nodes are numbered from 0, inputs first, then gates; N = I+G. A
- * pin's node is smaller than its gate's. Kinds: 1 BUF, 2 NOT (1 pin); 3 AND, 4 NAND, 5 OR, 6 NOR (2..8 pins);
- * 7 XOR, 8 XNOR (2 pins); 9 MUX (select, a, b: a when select is 0, b when it is 1).
+ * WHAT A HOST OWES. Whatever a slice holds is answered: no content is forbidden. But a call can't test its pointers.
+ * - A pointer is not null, not even with length 0. It is aligned for its type, and so many elements lie behind it.
+ * - All of that memory is initialised, also what is lent for writing alone: the proofs are about slices of numbers, and
+ *   memory that was never written holds none.
+ * - A slice lent for writing has no byte in common with another slice of the same call. Slices to read may have.
+ * - Until the call returns, no other thread, process or mapping writes to any of the slices.
+ * - There is room for 65,536 bytes of stack; no call takes more, whatever it is given. judge and build take most, some
+ *   60,000.
+ * - The C library's memset can be linked: it is the only function that is called.
+ * THREADS. Nothing is kept from one call to the next: no global data, no allocation, no pointer that outlives the call.
+ * So any number of threads may be in these functions at a time, each lending slices of its own.
+ * TIME. Every call ends; how soon, no proof says. A call writes all that it is lent, so its time grows with these
+ * lengths, and besides: evaluate with gates and pins; build with gates times pins, and with pairs times the pins that
+ * one node drives; check with the refutation's clauses times the numbers stored so far times the passes over them, of
+ * which there are at most variables + 1 for a clause; judge with all of these. docs/PERFORMANCE.md has figures.
  *
- * Settling: an input settles at 0; a pin is ready at its node's settling time plus its delay. AND, NAND and BUF, NOT
- * with a pin at 0, OR and NOR with a pin at 1, settle when the first such pin is ready; in every other case a gate
- * settles when its last pin is ready. The circuit settles at the largest time of its outputs.
+ * THE NETLIST FILE is read from its end; a number of several bytes has its lowest byte first. The last 14 bytes: back
+ * in four, then I (inputs, 1..64), G (gates, 0..448), P (pins, 0..2048), Q (outputs, 1..64), version (1) in two each.
+ * Right before them lie three tables, 4G+4P+2Q bytes together, which is what back says; bytes in front of these are a
+ * note that is not read.
+ * - A gate has 4 bytes: its kind, how many pins it has, and in two bytes its first pin: the total of all pin counts
+ *   before it. The total of all is P.
+ * - A pin has 4 bytes: the node that drives it, and its delay, 0..999.
+ * - An output has 2 bytes, a node; each is a larger node than the one before.
+ * Nodes are numbers below N = I+G: the inputs, then the gates. What drives a pin is a lower node than the pin's gate.
+ * Kinds: 1 BUF and 2 NOT have one pin; 3 AND, 4 NAND, 5 OR and 6 NOR two to eight; 7 XOR and 8 XNOR two; 9 MUX three,
+ * select, a and b, of which it gives a for select 0 and b for select 1.
+ *
+ * SETTLING. Inputs settle at 0, and a pin is ready a delay after its driver settles. The kinds 1 to 6 are settled by
+ * their earliest pin at the controlling value, which is 1 for OR and NOR and 0 for the others, if any pin has it. All
+ * other gates wait for their last pin. The circuit settles with its latest output.
  */
 #ifndef BUZZLUMEN_H
 #define BUZZLUMEN_H
@@ -34,30 +51,30 @@
 extern "C" {
 #endif
 
-/* The number of an answer: 0 for acceptance, with place 0, or the number of a refusal. Clauses, pins, gates and
- * indexes count from 0. The comment gives when, then the place. */
+/* The number of an answer: 0 for acceptance, with place 0, or the number of a refusal. Gates, pins, positions, indexes
+ * and clauses are counted from 0. The comment says when a refusal is given, and after the colon its place. */
 enum {
     BUZZLUMEN_ACCEPTED = 0,
-    BUZZLUMEN_SHORT = 1,       /* the netlist has fewer than 14 bytes: its length */
-    BUZZLUMEN_VERSION = 2,     /* the version isn't 1: the version */
-    BUZZLUMEN_COUNT = 3,       /* I, G, P or Q is outside its range: 0, 1, 2 or 3, the first such */
-    BUZZLUMEN_BACK = 4,        /* back isn't 4G+4P+2Q, or exceeds the length less 14: 0 */
-    BUZZLUMEN_GATE = 5,        /* a gate's kind is unknown, or its pin count or first pin is wrong: the gate;
-                                  the pin counts don't sum to P: G */
-    BUZZLUMEN_PIN = 6,         /* a pin's driver is not below its gate, or its delay is over 999: the pin */
-    BUZZLUMEN_OUTPUT = 7,      /* an output is not above the one before, or is N or more: its position */
-    BUZZLUMEN_VECTOR = 8,      /* the vector's length isn't I: I; a byte is over 1: the position of the first such */
-    BUZZLUMEN_ROOM = 9,        /* a slice lent for writing is shorter than needed: the length needed */
-    BUZZLUMEN_PAIRS = 10,      /* more pairs than the table holds, or than 65,536: 0 */
-    BUZZLUMEN_FORMULA = 11,    /* in this order: over 100,000 variables: 0; a literal of magnitude over the number of
-                                  variables: its index; not empty and the last number isn't 0: the length */
-    BUZZLUMEN_REFUTATION = 12, /* first, a literal of magnitude over the number of variables: its index;
-                                  then, empty or the last number isn't 0: the length */
-    BUZZLUMEN_LAST = 13,       /* an empty clause stands before the last: that clause; there is none: the number of
-                                  clauses in the refutation */
+    BUZZLUMEN_SHORT = 1,       /* the netlist doesn't even have 14 bytes: its length */
+    BUZZLUMEN_VERSION = 2,     /* another version than 1: that version */
+    BUZZLUMEN_COUNT = 3,       /* a count leaves its range: 0 for I, 1 for G, 2 for P, 3 for Q, the lowest that does */
+    BUZZLUMEN_BACK = 4,        /* back is not the tables' total, or the file is too short for it: 0 */
+    BUZZLUMEN_GATE = 5,        /* no such kind, no such pin count for it, or another first pin than the total so far:
+                                  the gate; then, a total other than P: G */
+    BUZZLUMEN_PIN = 6,         /* a driver at or above the pin's gate, or a delay of 1,000 or more: the pin */
+    BUZZLUMEN_OUTPUT = 7,      /* a node at or below the previous output, or no node at all: its position */
+    BUZZLUMEN_VECTOR = 8,      /* not just I bytes: I; then, a byte that is neither 0 nor 1: the first one's position */
+    BUZZLUMEN_ROOM = 9,        /* a lent slice has too few elements: how many it needs */
+    BUZZLUMEN_PAIRS = 10,      /* the pairs are over 65,536, or don't fit the table: 0 */
+    BUZZLUMEN_FORMULA = 11,    /* over 100,000 variables: 0; then, a number whose size is above the variables: its
+                                  index; then, a formula that has numbers and doesn't end in 0: its length */
+    BUZZLUMEN_REFUTATION = 12, /* a number whose size is above the variables: its index; then, a refutation that has no
+                                  numbers or doesn't end in 0: its length */
+    BUZZLUMEN_LAST = 13,       /* a clause that is empty and not the last: the first such clause; then, no empty clause:
+                                  how many clauses the refutation has */
     BUZZLUMEN_STEP = 14,       /* a clause of the refutation doesn't follow by unit propagation from the formula and
-                                  the clauses before it: the first such clause */
-    BUZZLUMEN_WITNESS = 15     /* the vector doesn't settle at the delay: the time at which it does */
+                                  the clauses before it: the first that doesn't */
+    BUZZLUMEN_WITNESS = 15     /* under the vector the circuit settles at another time than the delay: that time */
 };
 
 typedef struct {
@@ -117,6 +134,9 @@ buzzlumen_checked buzzlumen_check(uint32_t variables,
 
 /* Whether a delay is the circuit's true delay by this certificate: the vector settles at exactly the delay, and the
  * refutation passes the check against the formula for the delay + 1.
+ * Acceptance means that under no vector whatever the circuit settles later than the delay, and that under the vector
+ * given it settles at the delay: the delay is the largest settling time there is. A refusal means only that this is no
+ * certificate; it says nothing about the delay.
  * Needed lengths: values N, times N, pairs and formula as for building at the delay + 1, propagation N + pairs + 1.
  * Leaves: values and times as evaluation does, pairs and formula as building at the delay + 1 does, propagation zeros.
  * Order of checks: 1 to 8, 9 for values, 9 for times, 15, 10, 9 for the formula, 12, 13, 9 for propagation, 14. */

@@ -2,7 +2,7 @@
 
     python3 tests/bundles.py             writes crates/netlist_cases/{stdin,stdout}, crates/settle_cases/{stdin,stdout}
     python3 tests/bundles.py --check     compares; ends with 1 if a file differs, two methods disagree,
-                                         or document 01's own example comes out otherwise
+                                         or an example of docs/RULES.md comes out otherwise
     --root DIRECTORY                     the repository, if it is not the directory above this one
 
 netlist_cases reads cases, each a length (4 bytes, little endian) and so many bytes of a netlist file, and prints
@@ -288,7 +288,7 @@ def settle_case(dice, netlist, good):
 
 
 def edge_cases():
-    """The vectors of document 01's own circuits, and rooms at every edge."""
+    """The circuits of rules X1 and X3 under all vectors, and rooms at every edge."""
     data = methods.Tables(CIRCUIT_A).write()
     twice = methods.Tables(Netlist(1, [Gate(XOR, [Pin(0, 1), Pin(0, 4)])], [1])).write()
     chooser = methods.Tables(Netlist(3, [Gate(MUX, [Pin(0, 9), Pin(1, 1), Pin(2, 2)])], [3])).write()
@@ -349,7 +349,7 @@ def waveform_differences():
     return differences
 
 
-# What document 01 itself prints
+# What rules X1 and X2 print
 
 FILE_A = """
 01 01 00 00 03 02 01 00 05 02 03 00
@@ -377,7 +377,7 @@ PRINTED_AT_3 = """p cnf 8 15
 
 
 def page_differences():
-    """Where tests/document.py differs from what document 01 prints for circuit A and for the formula program."""
+    """Where tests/document.py differs from what the rules print for circuit A and say of the formula program."""
     data = methods.Tables(CIRCUIT_A).write()
     at_3, at_6 = (formula_program(struct.pack("<I", target) + data) for target in (3, 6))
     late_a, late_b = [0, 0, 3, 1, 2], [0, 0, 3, 4, 1]
@@ -420,10 +420,10 @@ def read_or_nothing(path):
 
 
 def compare(root):
-    """Compare document 01, every stored file, and the two methods of settling; the number of differences."""
+    """Compare the rules' examples, every stored file, and the two methods of settling; the number of differences."""
     differences = 0
     for what in page_differences():
-        print("not as document 01 prints it: %s" % what)
+        print("not as docs/RULES.md prints it: %s" % what)
         differences += 1
     for path, content in stored_files(root):
         if read_or_nothing(path) != content:

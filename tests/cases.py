@@ -1,5 +1,5 @@
 """The calls that the comparison makes: seeded random ones of each function, those on which SAT solvers are peers, and
-fixed ones at the edges of document 01.
+fixed ones at the edges of the rules (docs/RULES.md).
 
 Every maker takes dice, so a seed gives the same calls on every machine. A call whose answer is known beforehand says
 so; every other is judged by tests/document.py alone.
@@ -390,7 +390,7 @@ FILE_A = bytes.fromhex("01010000 03020100 05020300 00000300 02000100 01000100 03
 
 
 def edge_calls():
-    """The checks at the edges of document 01, with the answers that it gives, and some beside them."""
+    """The cases of rules X3 and X4 with the answers there, and some beside them."""
     return circuit_edges() + refutation_edges()
 
 

@@ -1,4 +1,4 @@
-"""Compares the library with document 01: every answer and every byte of every lent slice, over seeded cases.
+"""Compares the library with the rules: every answer and every byte of every lent slice, over seeded cases.
 
     python3 tests/compare.py --archive PATH     the library's archive, libbuzzlumen.a
     python3 tests/compare.py --twin             the C twin in its place, to try the tests themselves
@@ -122,7 +122,7 @@ def host_command(options, directory):
 
 def read_options():
     """The options of the command line."""
-    parser = argparse.ArgumentParser(description="Compares the library with document 01.")
+    parser = argparse.ArgumentParser(description="Compares the library with the rules.")
     which = parser.add_mutually_exclusive_group(required=True)
     which.add_argument("--archive", help="the library's archive")
     which.add_argument("--twin", action="store_true", help="the C twin in place of the library")

@@ -112,7 +112,7 @@ def check_text(tally):
 
 
 def check_table(tally):
-    """The table of refusals has document 01's names at document 01's numbers."""
+    """The table of refusals has the rules' names at the rules' numbers."""
     for number, (name, _, _) in enumerate(refusals.TABLE, 1):
         tally.same(name, number, getattr(document, name))
 
@@ -187,7 +187,7 @@ def check_order(tally):
 
 
 def check_turned_away(tally):
-    """What document 01 does not know is turned away in one line."""
+    """What the rules do not know is turned away in one line."""
     cases = (
         ([("$_DFF_P_", {"D": 2, "C": 3}, 9)],
          "cell cell_0 keeps state ($_DFF_P_): only a block without flip-flops has a delay here"),

@@ -1,6 +1,6 @@
-"""Document 01 in Python, written to be obviously right and not to be fast.
+"""The rules (docs/RULES.md) in Python, written to be obviously right and not to be fast.
 
-Each function says one sentence or one table of document 01 and nothing else. It was written from that page alone,
+Each function is one rule or one table of that page and nothing else, and names it. It was written from the page alone,
 never from the library, so that a difference between the two shows a mistake in one of them. The four calls at the end
 (evaluate, build, check, judge) give the answer and the whole final content of every slice that the caller lends.
 Assumes nothing but the standard library of Python 3.
@@ -9,11 +9,11 @@ Assumes nothing but the standard library of Python 3.
 import struct
 from collections import namedtuple
 
-# The refusal table: number and name.
+# The table of refusals (rule T1): number and name.
 (SHORT, VERSION, COUNT, BACK, GATE, PIN, OUTPUT, VECTOR,
  ROOM, PAIRS, FORMULA, REFUTATION, LAST, STEP, WITNESS) = range(1, 16)
 
-# The nine kinds of gate.
+# The nine kinds (rule K1).
 BUF, NOT, AND, NAND, OR, NOR, XOR, XNOR, MUX = range(1, 10)
 SIMPLE = (BUF, NOT, AND, NAND, OR, NOR)
 
@@ -21,7 +21,7 @@ SIMPLE = (BUF, NOT, AND, NAND, OR, NOR)
 PIN_COUNTS = {BUF: (1, 1), NOT: (1, 1), AND: (2, 8), NAND: (2, 8), OR: (2, 8), NOR: (2, 8),
               XOR: (2, 2), XNOR: (2, 2), MUX: (3, 3)}
 
-# The controlling value c of a simple gate, and the output k that it forces.
+# Of the simple kinds, the controlling value c and the value k that a pin at c makes the gate give (rule K2).
 CONTROLLING = {BUF: 0, NOT: 0, AND: 0, NAND: 0, OR: 1, NOR: 1}
 FORCED = {BUF: 0, NOT: 1, AND: 0, NAND: 1, OR: 1, NOR: 0}
 
@@ -31,10 +31,10 @@ MOST_DELAY = 999
 MOST_PAIRS = 65536
 MOST_VARIABLES = 100000
 
-# The room of the program that prints a formula.
+# The room of the program that prints a formula (rule W3).
 PROGRAM_NETLIST, PROGRAM_PAIRS, PROGRAM_FORMULA = 65532, 8192, 16384
 
-# The parts of a clause that are no literal.
+# The parts of a clause that are decided outright (rule F2).
 SURE, NEVER = "always true", "always false"
 
 Pin = namedtuple("Pin", "driver delay")
@@ -61,7 +61,7 @@ class Refusal(Exception):
 
 
 def read_netlist(data):
-    """The netlist that a file's bytes hold; checks 1 to 7 in table order."""
+    """The circuit that a file stands for (rule N10); checks 1 to 7, one after the other."""
     gate_count, pin_count, output_count, inputs, tables = read_trailer(data)
     gate_rows = [struct.unpack_from("<BBH", tables, 4 * g) for g in range(gate_count)]
     pin_rows = [struct.unpack_from("<HH", tables, 4 * (gate_count + p)) for p in range(pin_count)]
@@ -75,7 +75,7 @@ def read_netlist(data):
 
 
 def read_trailer(data):
-    """The counts in the trailer and the bytes of the tables that it points back to; checks 1 to 4."""
+    """The trailer's counts, and the bytes of the three tables before it (rules N2 to N4); checks 1 to 4."""
     if len(data) < TRAILER:
         raise Refusal(SHORT, len(data))
     end = len(data) - TRAILER
@@ -92,7 +92,7 @@ def read_trailer(data):
 
 
 def check_gates(gate_rows, pin_count):
-    """Check 5: each gate's kind, pin count and first pin, then the sum of the pin counts."""
+    """Check 5: every gate by itself, then the total of the pin counts (rule N5)."""
     pins_before = 0
     for place, (kind, count, first) in enumerate(gate_rows):
         if kind not in PIN_COUNTS:
@@ -106,7 +106,7 @@ def check_gates(gate_rows, pin_count):
 
 
 def check_pins(gate_rows, pin_rows, inputs):
-    """Check 6: a pin's node is smaller than its gate's node, and its delay is at most 999."""
+    """Check 6: what drives a gate lies below it, and no delay is over 999 (rules N6 and N9)."""
     for g, (_, count, first) in enumerate(gate_rows):
         for place in range(first, first + count):
             driver, delay = pin_rows[place]
@@ -115,7 +115,7 @@ def check_pins(gate_rows, pin_rows, inputs):
 
 
 def check_outputs(outputs, nodes):
-    """Check 7: the outputs are strictly rising node numbers."""
+    """Check 7: outputs are nodes, each larger than the one in front of it (rule N7)."""
     for place, node in enumerate(outputs):
         if node >= nodes or (place > 0 and node <= outputs[place - 1]):
             raise Refusal(OUTPUT, place)
@@ -136,7 +136,7 @@ def write_netlist(netlist, note=b""):
 
 
 def node_count(netlist):
-    """N: the inputs and the gates."""
+    """N: inputs and gates together."""
     return netlist.inputs + len(netlist.gates)
 
 
@@ -153,7 +153,7 @@ def check_vector(netlist, vector):
 
 
 def gate_value(kind, pins):
-    """The value a gate gives for the values of its pins, in pin order."""
+    """The value that a gate gives for those of its pins, in pin order (rules K2 to K4)."""
     if kind == BUF:
         return pins[0]
     if kind == NOT:
@@ -174,8 +174,8 @@ def gate_value(kind, pins):
 def gate_time(kind, pins):
     """When a gate settles; a pin is (value, the time it is ready).
 
-    A simple gate with a pin at c settles when the first such pin is ready; otherwise when its last pin is ready.
-    XOR, XNOR and MUX settle when the last pin is ready.
+    With pins at c a simple gate settles as soon as the earliest of them is ready (rule S3); every other gate, once all
+    its pins are (rules S3 and S4).
     """
     if kind in SIMPLE:
         controlling = [ready for value, ready in pins if value == CONTROLLING[kind]]
@@ -185,7 +185,7 @@ def gate_time(kind, pins):
 
 
 def settle(netlist, vector):
-    """The value and the settling time of each node. An input settles at 0."""
+    """Value and settling time of all nodes, from the inputs up (rules S1, S2 and S5)."""
     values, times = list(vector), [0] * netlist.inputs
     for gate in netlist.gates:
         pins = [(values[pin.driver], times[pin.driver] + pin.delay) for pin in gate.pins]
@@ -195,12 +195,12 @@ def settle(netlist, vector):
 
 
 def circuit_time(netlist, times):
-    """The circuit settles at the largest time of its outputs."""
+    """The circuit settles with the latest of its outputs (rule S6)."""
     return max(times[node] for node in netlist.outputs)
 
 
 def check_room(room, needed):
-    """Check 9: a lent slice is at least as long as needed."""
+    """Check 9: a lent slice has the elements that it needs."""
     if room < needed:
         raise Refusal(ROOM, needed)
 
@@ -209,7 +209,7 @@ def check_room(room, needed):
 
 
 def tops_of(netlist):
-    """top of each node: the longest sum of delays to it, 0 for an input."""
+    """The top of each node, the longest way to it counted in delays (rule S7)."""
     tops = [0] * netlist.inputs
     for gate in netlist.gates:
         tops.append(max(tops[pin.driver] + pin.delay for pin in gate.pins))
@@ -217,7 +217,7 @@ def tops_of(netlist):
 
 
 def late(tops, node, t):
-    """"Node late at t": true if t is 0 or less, false if t exceeds the node's top, otherwise the pair (node, t)."""
+    """That a node is late at t: decided outright at 0 or below and above the top, else open, a pair (rule F2)."""
     if t <= 0:
         return SURE
     if t > tops[node]:
@@ -226,9 +226,8 @@ def late(tops, node, t):
 
 
 def pairs_of(netlist, target, limit):
-    """The pairs by node rising, then t rising: the least set that holds each output's pair at the target and, for each
-    pair (f, t) and each pin of f, the driver's pair at t less the pin's delay. Check 10: at most `limit` pairs; the
-    set only grows, so the search ends where it has passed the limit.
+    """The pairs of a target (rule F4), in the order of their variables. Check 10: at most `limit` of them; the set only
+    grows, so the search ends where it has passed the limit.
     """
     tops = tops_of(netlist)
     found = set()
@@ -247,17 +246,17 @@ def pairs_of(netlist, target, limit):
 
 
 def pair_limit(room):
-    """A table of so many numbers holds half as many pairs, and never more than 65,536."""
+    """How many pairs a table of so many numbers has room for (rule C5)."""
     return min(room // 2, MOST_PAIRS)
 
 
 def node_is(node, value):
-    """The literal "node is value". A node's variable is its number plus 1."""
+    """The literal that wants a node at a value; node n has variable n + 1 (rule F5)."""
     return node + 1 if value else -(node + 1)
 
 
 def gate_clauses(node, gate):
-    """The clauses that tie a gate's value to those of its drivers."""
+    """The clauses that tie a gate's value to those of its drivers (rules F9 to F11)."""
     drivers = [pin.driver for pin in gate.pins]
     if gate.kind in SIMPLE:
         return simple_clauses(node, drivers, CONTROLLING[gate.kind], FORCED[gate.kind])
@@ -270,16 +269,14 @@ def gate_clauses(node, gate):
 
 
 def simple_clauses(node, drivers, c, k):
-    """For each pin, "driver is not c, gate is k"; then "driver is c" for every pin and "gate is not k"."""
+    """A clause of two literals for each pin, then one over all pins (rule F9)."""
     each = [[node_is(driver, 1 - c), node_is(node, k)] for driver in drivers]
     return each + [[node_is(driver, c) for driver in drivers] + [node_is(node, 1 - k)]]
 
 
 def pair_clauses(pair, number, gate, part):
-    """The clauses of the pair (f, t) with variable `number`; `part` turns "node late at t" into a part of a clause.
-
-    "-p, or some driver late at t less its delay", drivers in pin order. For a simple gate then, for each pin:
-    "-p, driver late, driver is not c".
+    """The clauses of a pair with variable `number` (rule F12); `part` gives, of a node and a time, the part of a clause
+    that says that the node is late then.
     """
     _, t = pair
     drivers_late = [part(pin.driver, t - pin.delay) for pin in gate.pins]
@@ -292,14 +289,14 @@ def pair_clauses(pair, number, gate, part):
 
 
 def without_constants(clauses):
-    """A clause with a true part is left out; a false part is left out of its clause."""
+    """The clauses without what is decided outright (rule F14)."""
     return [[part for part in clause if part != NEVER] for clause in clauses if SURE not in clause]
 
 
 def clauses_for(netlist, target, pairs):
-    """The formula's clauses in order: each gate's, each pair's, then "some output is late at the target"."""
+    """The formula's clauses: the gates', the pairs', the clause of the outputs (rules F8 and F13)."""
     tops = tops_of(netlist)
-    # Pairs take N+1, N+2 and on.
+    # The numbers after N are the pairs'.
     number_of = {pair: node_count(netlist) + 1 + place for place, pair in enumerate(pairs)}
 
     def part(node, t):
@@ -317,7 +314,7 @@ def clauses_for(netlist, target, pairs):
 
 
 def numbers_of(clauses):
-    """The clauses as one list of numbers, each clause ended by 0."""
+    """Clauses as one list of numbers, a 0 behind each (rule F7)."""
     return [number for clause in clauses for number in clause + [0]]
 
 
@@ -325,7 +322,7 @@ def numbers_of(clauses):
 
 
 def clauses_in(numbers):
-    """The clauses in a list of numbers. Numbers after the last 0 are no clause."""
+    """The clauses of a list of numbers, cut behind its zeros (rule L1)."""
     clauses, clause = [], []
     for number in numbers:
         if number == 0:
@@ -337,9 +334,9 @@ def clauses_in(numbers):
 
 
 def follows(clause, stored):
-    """Whether unit propagation finds that a clause follows from the stored clauses."""
+    """Whether a clause follows from stored ones by unit propagation (rules P1 to P4)."""
     true = set()
-    # Assert the opposite of each literal. If two assertions contradict, the clause follows.
+    # The opposites of its literals are true; two that contradict each other settle it.
     for literal in clause:
         if literal in true:
             return True
@@ -349,19 +346,19 @@ def follows(clause, stored):
         again = False
         for other in stored:
             not_false = {literal for literal in other if -literal not in true}
-            # If a stored clause has every literal false, the clause follows.
+            # A stored clause that is false.
             if not not_false:
                 return True
-            # If all its literals are false but occurrences of one unassigned literal, that literal becomes true.
+            # All false except one free literal, however often it occurs.
             if len(not_false) == 1 and not not_false <= true:
                 true |= not_false
                 again = True
-    # Neither rule applies.
+    # No stored clause does either any more.
     return False
 
 
 def first_beyond(numbers, variables):
-    """The index of the first literal of magnitude over V, or None."""
+    """The index of the first number whose size is above V, or None."""
     for index, number in enumerate(numbers):
         if abs(number) > variables:
             return index
@@ -397,7 +394,7 @@ def check_refutation(variables, formula, refutation, propagation_room):
 
 
 def check_last(steps):
-    """Check 13: the last clause is empty and no other is."""
+    """Check 13: only the last clause is empty (rule P6)."""
     for place, step in enumerate(steps[:-1]):
         if not step:
             raise Refusal(LAST, place)
@@ -415,7 +412,7 @@ def after(results, room):
 
 
 def call(work, rooms):
-    """Run one call. Any refusal zeroes all slices lent for writing."""
+    """Run one call. After a refusal all that was lent for writing holds zeros (rule C7)."""
     try:
         answer, results = work()
     except Refusal as refusal:
@@ -441,12 +438,12 @@ def build_checked(netlist, target, pairs_room, formula_room):
 
 
 def table_of(pairs):
-    """In the lent table a pair is two numbers, node then t."""
+    """The lent table: node and time of each pair (rule F6)."""
     return [number for pair in pairs for number in pair]
 
 
 def evaluate(data, vector, values_room, times_room):
-    """1..8, then 9 for values, then times. Gives Settled or Refused, values, times."""
+    """Gives Settled or Refused, values, times; the checks as in rule C3."""
     def work():
         netlist = read_netlist(data)
         values, times = settle_checked(netlist, vector, values_room, times_room)
@@ -455,7 +452,7 @@ def evaluate(data, vector, values_room, times_room):
 
 
 def build(data, target, pairs_room, formula_room):
-    """1..7, 10, then 9 for the formula. Gives Built or Refused, pairs, formula."""
+    """Gives Built or Refused, pairs, formula; the checks as in rule C3."""
     def work():
         netlist = read_netlist(data)
         pairs, clauses, numbers = build_checked(netlist, target, pairs_room, formula_room)
@@ -465,7 +462,7 @@ def build(data, target, pairs_room, formula_room):
 
 
 def check(variables, formula, refutation, propagation_room):
-    """11, 12, 13, 9, 14. Gives Passes or Refused, propagation."""
+    """Gives Passes or Refused, propagation; the checks as in rule C3."""
     def work():
         check_formula(variables, formula)
         check_refutation(variables, formula, refutation, propagation_room)
@@ -474,9 +471,7 @@ def check(variables, formula, refutation, propagation_room):
 
 
 def judge(data, delay, vector, refutation, values_room, times_room, pairs_room, formula_room, propagation_room):
-    """1..8, 9 for values and times, 15, 10, 9 for the formula, 12, 13, 9 for propagation, 14.
-    Gives Accepted or Refused, values, times, pairs, formula, propagation.
-    """
+    """Gives Accepted or Refused, values, times, pairs, formula, propagation; the checks as in rule C3."""
     def work():
         netlist = read_netlist(data)
         values, times = settle_checked(netlist, vector, values_room, times_room)
@@ -492,7 +487,7 @@ def judge(data, delay, vector, refutation, values_room, times_room, pairs_room, 
 
 
 def dimacs(variables, clauses):
-    """DIMACS CNF: the header with variable and clause counts, then one clause a line."""
+    """A formula as DIMACS CNF prints it (rule W2)."""
     lines = ["p cnf %d %d" % (variables, len(clauses))]
     lines += [" ".join(str(number) for number in clause + [0]) for clause in clauses]
     return "".join(line + "\n" for line in lines)
@@ -504,7 +499,7 @@ def refused_line(number, place):
 
 
 def formula_program(data):
-    """What the formula program prints when it reads these bytes: a target (4 bytes) and a netlist."""
+    """What the formula program prints for the bytes of a target and a netlist (rules W2 and W3)."""
     if len(data) < 4:
         return refused_line(SHORT, len(data))
     target, netlist = struct.unpack_from("<I", data)[0], data[4:]

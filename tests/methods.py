@@ -1,4 +1,4 @@
-"""Second ways to the answers of document 01, each by another method than tests/document.py, and the makers of test
+"""Second ways to the answers of docs/RULES.md, each by another method than tests/document.py, and the makers of test
 circuits, vectors and damaged files.
 
 Settling is simulated as waveforms of three values in time order; the formula is built by recursion with sets and
@@ -96,7 +96,7 @@ def function_of(kind, pins):
 @functools.lru_cache(None)
 def controlling(kind, count):
     """(c, k): the first value that forces the output when it stands on one pin, and that output; None where none
-    does. XOR, XNOR and MUX have none by document 01.
+    does. XOR, XNOR and MUX have none by rule S4.
     """
     if kind in (XOR, XNOR, MUX):
         return None
@@ -150,7 +150,7 @@ class Late:
 
 
 def truth_clauses(node, gate):
-    """The clauses on a gate's value, in document 01's order, from its truth table."""
+    """The clauses on a gate's value, in the order of rules F9 to F11, from its truth table."""
     literals = [pin.driver + 1 for pin in gate.pins]
     forces = controlling(gate.kind, len(gate.pins))
     sign = (-1, 1)

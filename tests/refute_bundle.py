@@ -1,5 +1,5 @@
 #!/usr/bin/env python3
-"""Writes the input and the expected output of the program refute_cases, from document 01 alone.
+"""Writes the input and the expected output of the program refute_cases, from docs/RULES.md alone.
 
 Unit propagation here works on sets: the stored clauses are sets of literals, and all clauses are looked at together,
 until no rule applies. Run without arguments: writes crates/refute_cases/stdin and stdout. With --check: compares them,
@@ -79,7 +79,7 @@ def numbers(text):
 
 
 def named_cases():
-    """The runs that document 01 and its edges name."""
+    """The runs that the rules' examples name, and their edges."""
     four = numbers("1 2 0 1 -2 0 -1 2 0 -1 -2 0")
     yield 2, four, [0], 3
     yield 2, four, numbers("1 0 0"), 3

@@ -1,0 +1,73 @@
+/* Prints how many bytes of stack each function of the library takes, one line a function.
+ *
+ * Each is called once on circuit A by a thread whose stack was filled with a pattern; what lies below the caller's
+ * frame and lost the pattern was used. The functions don't recurse and no frame's size depends on the input, so that
+ * one accepted call shows all. It ends with 1 where a call is not accepted. Assumes a stack that grows down.
+ */
+#include "buzzlumen.h"
+
+#include <pthread.h>
+#include <stdio.h>
+#include <stdlib.h>
+#include <string.h>
+
+enum { PATTERN = 0xA5, STACK = 1 << 20, PAGE = 4096 };
+
+static const uint8_t netlist[48] = {
+    1, 1, 0, 0, 3, 2, 1, 0, 5, 2, 3, 0,
+    0, 0, 3, 0, 2, 0, 1, 0, 1, 0, 1, 0, 3, 0, 1, 0, 1, 0, 1, 0,
+    4, 0, 34, 0, 0, 0, 2, 0, 3, 0, 5, 0, 1, 0, 1, 0,
+};
+static const uint8_t vector[2];
+static const int32_t refutation[1];
+static uint8_t values[5], propagation[9];
+static uint32_t times[5], pairs[6];
+static int32_t formula[48];
+static uint32_t number;
+static uint8_t *frame;
+
+/* Where the caller's frame lies. */
+#define CALL(name, call)                   \
+    static void *name(void *unused)        \
+    {                                      \
+        uint8_t here;                      \
+        (void)unused;                      \
+        frame = (uint8_t *)(void *)&here;  \
+        number = (call).number;            \
+        return NULL;                       \
+    }
+
+CALL(evaluate, buzzlumen_evaluate(netlist, 48, vector, 2, values, 5, times, 5))
+CALL(build, buzzlumen_build(netlist, 48, 3, pairs, 6, formula, 48))
+CALL(check, buzzlumen_check(8, formula, 48, refutation, 1, propagation, 9))
+CALL(judge, buzzlumen_judge(netlist, 48, 2, vector, 2, refutation, 1, values, 5, times, 5, pairs, 6, formula, 48,
+                            propagation, 9))
+
+static void measure(const char *name, void *(*call)(void *))
+{
+    uint8_t *stack = aligned_alloc(PAGE, STACK), *lowest = stack;
+    pthread_attr_t attributes;
+    pthread_t thread;
+    if (stack == NULL)
+        exit(2);
+    memset(stack, PATTERN, STACK);
+    pthread_attr_init(&attributes);
+    if (pthread_attr_setstack(&attributes, stack, STACK) != 0 || pthread_create(&thread, &attributes, call, NULL) != 0)
+        exit(2);
+    pthread_join(thread, NULL);
+    while (*lowest == PATTERN)
+        lowest++;
+    printf("%s %zu\n", name, (size_t)(frame - lowest));
+    free(stack);
+    if (number != BUZZLUMEN_ACCEPTED)
+        exit(1);
+}
+
+int main(void)
+{
+    measure("evaluate", evaluate);
+    measure("build", build);
+    measure("check", check);
+    measure("judge", judge);
+    return 0;
+}
