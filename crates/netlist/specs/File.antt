@@ -6,7 +6,7 @@ use Rattle.basics.specs.Lists.{upFrom}
 use Rattle.lent.specs.Bytes.{twoBytes, fourBytes}
 use Rattle.netlist.specs.declared.Shape.{Shape}
 use Rattle.netlist.specs.declared.Gate.{Gate}
-use Rattle.netlist.specs.Netlist.{Netlist, Cell, Pin}
+use Rattle.netlist.specs.Netlist.{Netlist, Circuit, Cell, Pin, atZero}
 use Rattle.netlist.specs.Kinds.{kindOf}
 
 -- ---- the trailer: back (4 bytes), inputs I, gates G, pins P, outputs Q, version (2 bytes each)
@@ -106,3 +106,10 @@ netlistAt file shape =
 -- the netlist of a file
 abbrev pub netlistOf : List ℕ → Netlist
 netlistOf file = netlistAt file (shapeOf file)
+
+-- the circuit of a file
+abbrev pub circuitAt : List ℕ → Shape → Circuit
+circuitAt file shape = atZero (netlistAt file shape)
+
+abbrev pub circuitOf : List ℕ → Circuit
+circuitOf file = circuitAt file (shapeOf file)

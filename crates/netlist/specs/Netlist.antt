@@ -3,7 +3,7 @@ use mathlib.Core.Bool.{Bool, true, _&&_}
 use mathlib.Core.List.{List, [], _∷_}
 use Prim.Native.Nat.{ℕ, suc, _+_}
 use lib.Dec.{leb, ltb, eqb}
-use lib.ListN.{length}
+use lib.ListN.{length, replicate}
 use Rattle.basics.specs.Lists.{all, numbered}
 use Rattle.netlist.specs.declared.Kind.{Kind}
 use Rattle.netlist.specs.declared.Kind.the-variants.{Simple, Parity, Mux}
@@ -23,6 +23,15 @@ pub record Netlist : Type 0 where
   pub inputs : ℕ
   pub gates : List Cell
   pub outputs : List ℕ
+
+-- a circuit: a netlist, and when each of its inputs arrives
+pub record Circuit : Type 0 where
+  pub net : Netlist
+  pub arrivals : List ℕ
+
+-- the circuit whose inputs all arrive at 0
+abbrev pub atZero : Netlist → Circuit
+atZero net = record { net = net; arrivals = replicate (net .inputs) 0 }
 
 -- "N = I+G"
 abbrev pub nodeCount : Netlist → ℕ

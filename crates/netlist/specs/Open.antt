@@ -12,7 +12,7 @@ use Rattle.refusal.specs.Rows.{Row, checked, unlessRefused}
 use Rattle.netlist.specs.declared.Shape.{Shape}
 use Rattle.netlist.specs.declared.Opened.{Opened}
 use Rattle.netlist.specs.declared.Opened.the-variants.{Accepted, Refused}
-use Rattle.netlist.specs.Netlist.{Netlist}
+use Rattle.netlist.specs.Netlist.{Circuit}
 use Rattle.netlist.specs.Kinds.{fewest, most}
 use Rattle.netlist.specs.File.{
   trailer,
@@ -24,7 +24,7 @@ use Rattle.netlist.specs.File.{
   outputs,
   tableBytes,
   shapeOf,
-  netlistOf,
+  circuitOf,
   kindAt,
   countAt,
   firstAt,
@@ -112,10 +112,10 @@ netlistRows file =
 unfoldable pub openOf : List ℕ → Opened
 openOf file = unlessRefused (checked (netlistRows file)) Refused (Accepted (shapeOf file))
 
--- the rows of a call on any list of bytes: 1 to 7, then the call's own over the netlist
-abbrev pub rowsOver : List ℕ → (Netlist → List Row) → List Row
-rowsOver file rows = netlistRows file ++ rows (netlistOf file)
+-- the rows of a call on any list of bytes: 1 to 7, then the call's own over the circuit
+abbrev pub rowsOver : List ℕ → (Circuit → List Row) → List Row
+rowsOver file rows = netlistRows file ++ rows (circuitOf file)
 
 -- what a call on any list of bytes comes to
-abbrev pub callOver : {A : Type 0} → List ℕ → (Netlist → List Row) → (Refusal → A) → (Netlist → A) → A
-callOver file rows refused passed = unlessRefused (checked (rowsOver file rows)) refused (passed (netlistOf file))
+abbrev pub callOver : {A : Type 0} → List ℕ → (Circuit → List Row) → (Refusal → A) → (Circuit → A) → A
+callOver file rows refused passed = unlessRefused (checked (rowsOver file rows)) refused (passed (circuitOf file))

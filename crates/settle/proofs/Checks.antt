@@ -18,16 +18,16 @@ use Rattle.refusal.specs.Rows.{Row, checked, unlessRefused, roomRow}
 use Rattle.refusal.proofs.Rows.{passed-by}
 use Rattle.netlist.specs.declared.Shape.{Shape}
 use Rattle.netlist.specs.declared.Opened.the-variants.{Accepted, Refused as Rejected}
-use Rattle.netlist.specs.Netlist.{Netlist, nodeCount}
+use Rattle.netlist.specs.Netlist.{Circuit, nodeCount}
 use Rattle.netlist.specs.Kinds.{bit}
-use Rattle.netlist.specs.File.{netlistAt}
+use Rattle.netlist.specs.File.{circuitAt}
 use Rattle.netlist.specs.Open.{firstWrong, openOf}
 use Rattle.netlist.proofs.Entries.{net-inputs, node-count}
 use Rattle.netlist.proofs.TableOrder.{not-back}
 use Rattle.netlist.proofs.Calls.{call-accepted, call-rejected}
 use Rattle.settle.specs.declared.Settled.{Settled}
 use Rattle.settle.specs.declared.Settled.the-variants.{At, Refused}
-use Rattle.settle.specs.Settling.{atZero, circuitTime}
+use Rattle.settle.specs.Settling.{circuitTime}
 use Rattle.settle.specs.Promise.{
   bits,
   byteWrong,
@@ -112,13 +112,13 @@ usable shape vector valuesRoom timesRoom g e =
 -- the evaluation of a file's netlist, as they say
 pub by-checks : {given : Checked} (file : List ℕ) (shape : Shape) (vector : List ℕ) (valuesRoom timesRoom : ℕ) →
     given ≡ checked (givenRows (shape .inputs) (shape .inputs + shape .gates) vector valuesRoom timesRoom) →
-    evaluationOf (netlistAt file shape) vector valuesRoom timesRoom
+    evaluationOf (circuitAt file shape) vector valuesRoom timesRoom
     ≡ unlessRefused given (refused valuesRoom timesRoom)
-    (settled (netlistAt file shape) vector valuesRoom timesRoom)
+    (settled (circuitAt file shape) vector valuesRoom timesRoom)
 unfolding evaluationOf
 by-checks file shape vector valuesRoom timesRoom g =
     ap (λ (c : Checked). unlessRefused c (refused valuesRoom timesRoom)
-    (settled (netlistAt file shape) vector valuesRoom timesRoom))
+    (settled (circuitAt file shape) vector valuesRoom timesRoom))
     (ap₂ (λ (inputs count : ℕ). checked (givenRows inputs count vector valuesRoom timesRoom))
     (net-inputs file shape) (node-count file shape)
     ∙ sym g)
@@ -127,55 +127,55 @@ by-checks file shape vector valuesRoom timesRoom g =
 
 module _ (file vector : List ℕ) (valuesRoom timesRoom : ℕ) where
   pub accepted : (shape : Shape) → openOf file ≡ Accepted shape →
-      evaluation file vector valuesRoom timesRoom ≡ evaluationOf (netlistAt file shape) vector valuesRoom timesRoom
+      evaluation file vector valuesRoom timesRoom ≡ evaluationOf (circuitAt file shape) vector valuesRoom timesRoom
   unfolding evaluation evaluationOf
   accepted shape e =
-      call-accepted file (λ net. evaluationRows net vector valuesRoom timesRoom) (refused valuesRoom timesRoom)
-      (λ net. settled net vector valuesRoom timesRoom) e
+      call-accepted file (λ circuit. evaluationRows circuit vector valuesRoom timesRoom) (refused valuesRoom timesRoom)
+      (λ circuit. settled circuit vector valuesRoom timesRoom) e
 
   pub rejected : (refusal : Refusal) → openOf file ≡ Rejected refusal →
       evaluation file vector valuesRoom timesRoom ≡ refused valuesRoom timesRoom refusal
   unfolding evaluation
   rejected refusal e =
-      call-rejected file (λ net. evaluationRows net vector valuesRoom timesRoom) (refused valuesRoom timesRoom)
-      (λ net. settled net vector valuesRoom timesRoom) e
+      call-rejected file (λ circuit. evaluationRows circuit vector valuesRoom timesRoom) (refused valuesRoom timesRoom)
+      (λ circuit. settled circuit vector valuesRoom timesRoom) e
 
 -- ---- what an answer says of the rows 8 and 9
 
-module _ (net : Netlist) (vector : List ℕ) (valuesRoom timesRoom : ℕ) {answer : Settled}
-    (a : answer ≡ evaluationOf net vector valuesRoom timesRoom .answer) where
+module _ (circuit : Circuit) (vector : List ℕ) (valuesRoom timesRoom : ℕ) {answer : Settled}
+    (a : answer ≡ evaluationOf circuit vector valuesRoom timesRoom .answer) where
   -- a refusal is theirs
   pub answer-refused : {refusal : Refusal} → answer ≡ Refused refusal →
-      checked (evaluationRows net vector valuesRoom timesRoom) ≡ Fails refusal
+      checked (evaluationRows circuit vector valuesRoom timesRoom) ≡ Fails refusal
   unfolding evaluationOf settled
-  answer-refused {refusal} e = go (checked (evaluationRows net vector valuesRoom timesRoom)) (sym a ∙ e)
+  answer-refused {refusal} e = go (checked (evaluationRows circuit vector valuesRoom timesRoom)) (sym a ∙ e)
     where
       go : (c : Checked) →
-          unlessRefused c (refused valuesRoom timesRoom) (settled net vector valuesRoom timesRoom) .answer
+          unlessRefused c (refused valuesRoom timesRoom) (settled circuit vector valuesRoom timesRoom) .answer
           ≡ Refused refusal → c ≡ Fails refusal
       go Passes e = let w : _≡_ {A = ℕ} 0 1 = cc in absurd (omega arith)
       go (Fails r) e = cc
 
   -- with a time they are passed, and it is the circuit's
   pub answer-time : {time : ℕ} → answer ≡ At time →
-      (checked (evaluationRows net vector valuesRoom timesRoom) ≡ Passes)
-      × (circuitTime net (atZero net) (bits vector) ≡ time)
+      (checked (evaluationRows circuit vector valuesRoom timesRoom) ≡ Passes)
+      × (circuitTime circuit (bits vector) ≡ time)
   unfolding evaluationOf settled
-  answer-time {time} e = go (checked (evaluationRows net vector valuesRoom timesRoom)) (sym a ∙ e)
+  answer-time {time} e = go (checked (evaluationRows circuit vector valuesRoom timesRoom)) (sym a ∙ e)
     where
       go : (c : Checked) →
-          unlessRefused c (refused valuesRoom timesRoom) (settled net vector valuesRoom timesRoom) .answer
-          ≡ At time → (c ≡ Passes) × (circuitTime net (atZero net) (bits vector) ≡ time)
+          unlessRefused c (refused valuesRoom timesRoom) (settled circuit vector valuesRoom timesRoom) .answer
+          ≡ At time → (c ≡ Passes) × (circuitTime circuit (bits vector) ≡ time)
       go Passes e = (refl, cc)
       go (Fails r) e = let w : _≡_ {A = ℕ} 0 1 = cc in absurd (omega arith)
 
 -- a vector that passes has a value for each input
-pub vector-passes : (net : Netlist) (vector : List ℕ) (valuesRoom timesRoom : ℕ) →
-    checked (evaluationRows net vector valuesRoom timesRoom) ≡ Passes → length vector ≡ net .inputs
+pub vector-passes : (circuit : Circuit) (vector : List ℕ) (valuesRoom timesRoom : ℕ) →
+    checked (evaluationRows circuit vector valuesRoom timesRoom) ≡ Passes → length vector ≡ circuit .net .inputs
 unfolding givenRows
-vector-passes net vector valuesRoom timesRoom e =
-    let rest : List Row = roomRow (nodeCount net) valuesRoom ∷ roomRow (nodeCount net) timesRoom ∷ [] in
+vector-passes circuit vector valuesRoom timesRoom e =
+    let rest : List Row = roomRow (nodeCount (circuit .net)) valuesRoom ∷ roomRow (nodeCount (circuit .net)) timesRoom ∷ [] in
     eqb-true _ _
-    (not-back (eqb (length vector) (net .inputs))
-    (passed-by (not (eqb (length vector) (net .inputs))) (Vector (net .inputs))
+    (not-back (eqb (length vector) (circuit .net .inputs))
+    (passed-by (not (eqb (length vector) (circuit .net .inputs))) (Vector (circuit .net .inputs))
     ((ltb (byteWrong vector) (length vector), Vector (byteWrong vector)) ∷ rest) e .0))

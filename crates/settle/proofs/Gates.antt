@@ -16,7 +16,6 @@ use lib.ListN.{
   replicate,
   length-map,
   length-take,
-  length-replicate,
   List·getD-map,
   List·getD-eq-default,
 }
@@ -26,16 +25,18 @@ use Rattle.netlist.specs.declared.Shape.{Shape}
 use Rattle.netlist.specs.declared.Gate.{Gate}
 use Rattle.netlist.specs.Netlist.{Cell, Pin, nodes, takes}
 use Rattle.netlist.specs.Kinds.{bit}
-use Rattle.netlist.specs.File.{gateAt, cellAt, cellOf, netlistAt, pinsFrom, firstAt, countAt}
+use Rattle.netlist.specs.File.{gateAt, cellAt, cellOf, netlistAt, circuitAt, pinsFrom, firstAt, countAt}
 use Rattle.netlist.specs.Holds.{Holds}
 use Rattle.netlist.proofs.Entries.{node-has, node-count, net-inputs}
 use Rattle.netlist.proofs.GateRead.{gate-fields, gate-within, gate-takes}
 use Rattle.settle.specs.declared.Signal.{Signal}
-use Rattle.settle.specs.Settling.{readyAt, valuesOf, valueOf, timesOf, timeOf, atZero}
+use Rattle.settle.specs.Settling.{readyAt, valuesOf, valueOf, timesOf, timeOf}
 use Rattle.settle.specs.Promise.{bits}
 use Rattle.settle.specs.Steps.{pinValue, pinReady, gateSignal, Wired, Begun, Done}
 use Rattle.settle.proofs.Argument.{settles-cong, gateValue-cong}
 use Rattle.settle.proofs.Nodes.{
+  Arrives,
+  zero-arrives,
   laid,
   runs,
   values-length,
@@ -77,15 +78,15 @@ abbrev pub allValues : List ℕ → Shape → List Bool → List ℕ
 allValues file shape vector = map bit (valuesOf (netlistAt file shape) vector)
 
 abbrev pub allTimes : List ℕ → Shape → List Bool → List ℕ
-allTimes file shape vector = timesOf (netlistAt file shape) (atZero (netlistAt file shape)) vector
+allTimes file shape vector = timesOf (circuitAt file shape) vector
 
 module _ {file : List ℕ} {shape : Shape} (h : Holds file shape) (vector : List Bool)
     (long : length vector ≡ shape .inputs) where
   vector-long : length vector ≡ netlistAt file shape .inputs
   vector-long = long ∙ sym (net-inputs file shape)
 
-  zeros-long : length (atZero (netlistAt file shape)) ≡ netlistAt file shape .inputs
-  zeros-long = length-replicate (netlistAt file shape .inputs) 0
+  zeros-long : Arrives (circuitAt file shape)
+  zeros-long = zero-arrives (netlistAt file shape)
 
   pub all-values-length : length (allValues file shape vector) ≡ shape .inputs + shape .gates
   all-values-length =
@@ -95,7 +96,7 @@ module _ {file : List ℕ} {shape : Shape} (h : Holds file shape) (vector : List
 
   pub all-times-length : length (allTimes file shape vector) ≡ shape .inputs + shape .gates
   all-times-length =
-      times-length (netlistAt file shape) (atZero (netlistAt file shape)) vector zeros-long ∙ node-count file shape
+      times-length (circuitAt file shape) vector zeros-long ∙ node-count file shape
 
   -- the inputs come first
   pub all-values-begin : take (shape .inputs) (allValues file shape vector) ≡ map bit vector
@@ -108,7 +109,7 @@ module _ {file : List ℕ} {shape : Shape} (h : Holds file shape) (vector : List
   pub all-times-begin : take (shape .inputs) (allTimes file shape vector) ≡ replicate (shape .inputs) 0
   all-times-begin =
       ap (λ (n : ℕ). take n (allTimes file shape vector)) (sym (net-inputs file shape) ∙ sym zeros-long)
-      ∙ times-begin (netlistAt file shape) (atZero (netlistAt file shape)) vector
+      ∙ times-begin (circuitAt file shape) vector
       ∙ ap (λ (n : ℕ). replicate n 0) (net-inputs file shape)
 
   -- one gate, over the nodes before it
@@ -135,7 +136,7 @@ module _ {file : List ℕ} {shape : Shape} (h : Holds file shape) (vector : List
 
     pin-ready : (p : Pin) → List·Memᴰ p (cellAt file shape number .pins) →
         pinReady doneTimes p
-        ≡ readyAt (timeOf (netlistAt file shape) (atZero (netlistAt file shape)) vector) p
+        ≡ readyAt (timeOf (circuitAt file shape) vector) p
     pin-ready p i =
         ap (λ (t : ℕ). t + p .delay)
         (getD-take (shape .inputs + number) (allTimes file shape vector) (p .driver) 0 (driver-below p i))
@@ -146,12 +147,12 @@ module _ {file : List ℕ} {shape : Shape} (h : Holds file shape) (vector : List
         ≡ record {
           value = valueOf (netlistAt file shape) vector (shape .inputs + number);
           at =
-              timeOf (netlistAt file shape) (atZero (netlistAt file shape)) vector (shape .inputs + number);
+              timeOf (circuitAt file shape) vector (shape .inputs + number);
         }
     unfolding gateSignal pinsFrom cellAt cellOf
     gate-settled gate e =
         let facts =
-        runs (netlistAt file shape) (h .valid) (atZero (netlistAt file shape)) zeros-long vector vector-long
+        runs (circuitAt file shape) (h .valid) zeros-long vector vector-long
         in
         ap (λ (g : Gate). gateSignal doneValues doneTimes (g .kind) (pinsFrom file shape (g .first) (g .count))) e
         ∙ ap₂ (λ (v : Bool) (t : ℕ). record { value = v; at = t })
@@ -159,7 +160,7 @@ module _ {file : List ℕ} {shape : Shape} (h : Holds file shape) (vector : List
         (cellAt file shape number .kind) (cellAt file shape number .pins) pin-value
         ∙ sym (facts .value-fixed _ _ member))
         (settles-cong (pinValue doneValues) (λ (p : Pin). valueOf (netlistAt file shape) vector (p .driver))
-        (pinReady doneTimes) (readyAt (timeOf (netlistAt file shape) (atZero (netlistAt file shape)) vector))
+        (pinReady doneTimes) (readyAt (timeOf (circuitAt file shape) vector))
         (cellAt file shape number .kind) (cellAt file shape number .pins) pin-value pin-ready
         ∙ sym (facts .time-fixed _ _ member))
 

@@ -15,7 +15,7 @@ use lib.ListN.{length, getD, take, length-replicate, getD-replicate, List·getD-
 use Rattle.basics.specs.Lists.{any}
 use Rattle.basics.proofs.Truth.{decide}
 use Rattle.basics.proofs.Lists.{all-at}
-use Rattle.netlist.specs.Netlist.{Netlist, Cell, Pin, nodes, nodeCount, takes, gateFits, valid}
+use Rattle.netlist.specs.Netlist.{Netlist, Circuit, Cell, Pin, atZero, nodes, nodeCount, takes, gateFits, valid}
 use Rattle.netlist.proofs.Ranges.{numbered-has, numbered-only}
 use Rattle.netlist.proofs.Valid.{valid-gates, valid-gates-few, fits-takes, fits-below, fits-small}
 use Rattle.netlist.specs.declared.Kind.the-variants.{Mux}
@@ -30,7 +30,6 @@ use Rattle.settle.specs.Settling.{
   timeOf,
   topsOf,
   topOf,
-  atZero,
   circuitTime,
 }
 use Rattle.settle.proofs.Cubes.{settles-last}
@@ -73,22 +72,29 @@ timeStep value cell time = settles (λ (p : Pin). value (p .driver)) (readyAt ti
 abbrev topStep : Cell → (ℕ → ℕ) → ℕ
 topStep cell top = last (readyAt top) (cell .pins)
 
+-- each input has an arrival
+abbrev pub Arrives : Circuit → Type 0
+Arrives circuit = length (circuit .arrivals) ≡ circuit .net .inputs
+
 -- how many nodes each list has
 pub values-length : (net : Netlist) (vector : List Bool) → length vector ≡ net .inputs →
     length (valuesOf net vector) ≡ nodeCount net
 unfolding valuesOf
 values-length net vector e = let f = grow-length false valueStep vector (net .gates) in omega arith
 
-pub times-length : (net : Netlist) (arrivals : List ℕ) (vector : List Bool) → length arrivals ≡ net .inputs →
-    length (timesOf net arrivals vector) ≡ nodeCount net
+pub times-length : (circuit : Circuit) (vector : List Bool) → Arrives circuit →
+    length (timesOf circuit vector) ≡ nodeCount (circuit .net)
 unfolding timesOf
-times-length net arrivals vector e =
-    let f = grow-length 0 (timeStep (valueOf net vector)) arrivals (net .gates) in omega arith
+times-length circuit vector e =
+    let f =
+    grow-length 0 (timeStep (valueOf (circuit .net) vector)) (circuit .arrivals) (circuit .net .gates)
+    in
+    omega arith
 
-pub tops-length : (net : Netlist) (arrivals : List ℕ) → length arrivals ≡ net .inputs →
-    length (topsOf net arrivals) ≡ nodeCount net
+pub tops-length : (circuit : Circuit) → Arrives circuit → length (topsOf circuit) ≡ nodeCount (circuit .net)
 unfolding topsOf
-tops-length net arrivals e = let f = grow-length 0 topStep arrivals (net .gates) in omega arith
+tops-length circuit e =
+    let f = grow-length 0 topStep (circuit .arrivals) (circuit .net .gates) in omega arith
 
 -- the values begin with the vector
 pub values-begin : (net : Netlist) (vector : List Bool) → take (length vector) (valuesOf net vector) ≡ vector
@@ -96,10 +102,16 @@ unfolding valuesOf
 values-begin net vector = grow-begins false valueStep vector (net .gates)
 
 -- the times begin with the arrivals
-pub times-begin : (net : Netlist) (arrivals : List ℕ) (vector : List Bool) →
-    take (length arrivals) (timesOf net arrivals vector) ≡ arrivals
+pub times-begin : (circuit : Circuit) (vector : List Bool) →
+    take (length (circuit .arrivals)) (timesOf circuit vector) ≡ circuit .arrivals
 unfolding timesOf
-times-begin net arrivals vector = grow-begins 0 (timeStep (valueOf net vector)) arrivals (net .gates)
+times-begin circuit vector =
+    grow-begins 0 (timeStep (valueOf (circuit .net) vector)) (circuit .arrivals) (circuit .net .gates)
+
+-- and so do the tops
+pub tops-begin : (circuit : Circuit) → take (length (circuit .arrivals)) (topsOf circuit) ≡ circuit .arrivals
+unfolding topsOf
+tops-begin circuit = grow-begins 0 topStep (circuit .arrivals) (circuit .net .gates)
 
 -- an input has the vector's value
 pub input-value : (net : Netlist) (vector : List Bool) → length vector ≡ net .inputs → (n : ℕ) → n < net .inputs →
@@ -108,17 +120,17 @@ unfolding valuesOf
 input-value net vector e n h = grow-keeps false valueStep vector (net .gates) n (omega arith)
 
 -- an input settles at its arrival
-pub input-at : (net : Netlist) (arrivals : List ℕ) (vector : List Bool) → length arrivals ≡ net .inputs →
-    (n : ℕ) → n < net .inputs → timeOf net arrivals vector n ≡ getD arrivals n 0
+pub input-at : (circuit : Circuit) (vector : List Bool) → Arrives circuit → (n : ℕ) → n < circuit .net .inputs →
+    timeOf circuit vector n ≡ getD (circuit .arrivals) n 0
 unfolding timesOf
-input-at net arrivals vector e n h =
-    grow-keeps 0 (timeStep (valueOf net vector)) arrivals (net .gates) n (omega arith)
+input-at circuit vector e n h =
+    grow-keeps 0 (timeStep (valueOf (circuit .net) vector)) (circuit .arrivals) (circuit .net .gates) n (omega arith)
 
 -- and its top is that
-pub input-top : (net : Netlist) (arrivals : List ℕ) → length arrivals ≡ net .inputs → (n : ℕ) → n < net .inputs →
-    topOf net arrivals n ≡ getD arrivals n 0
+pub input-top : (circuit : Circuit) → Arrives circuit → (n : ℕ) → n < circuit .net .inputs →
+    topOf circuit n ≡ getD (circuit .arrivals) n 0
 unfolding topsOf
-input-top net arrivals e n h = grow-keeps 0 topStep arrivals (net .gates) n (omega arith)
+input-top circuit e n h = grow-keeps 0 topStep (circuit .arrivals) (circuit .net .gates) n (omega arith)
 
 -- a node is an input or a gate
 pub input-or-gate : (net : Netlist) (n : ℕ) → n < nodeCount net →
@@ -198,135 +210,138 @@ module _ (net : Netlist) (v : T (valid net)) where
       gateValue-cong (λ (p : Pin). f (p .driver)) (λ (p : Pin). h (p .driver)) (cell .kind) (cell .pins) q)
       vector (net .gates) (net .inputs) (sym e) (valid-gates net v) n cell m
 
-  module _ (arrivals : List ℕ) (e : length arrivals ≡ net .inputs) where
-    -- a gate's top, from its drivers' tops
-    top-fixed : (n : ℕ) (cell : Cell) → List·Memᴰ (n, cell) (nodes net) →
-        topOf net arrivals n ≡ last (readyAt (topOf net arrivals)) (cell .pins)
-    unfolding topsOf
-    top-fixed n cell m =
-        grow-fixed 0 topStep
-        (λ cell f h q. last-cong (readyAt f) (readyAt h) (cell .pins) (λ p i. ap (λ t. t + p .delay) (q p i)))
-        arrivals (net .gates) (net .inputs) (sym e) (valid-gates net v) n cell m
+module _ (circuit : Circuit) (v : T (valid (circuit .net))) (e : Arrives circuit) where
+  -- a gate's top, from its drivers' tops
+  top-fixed : (n : ℕ) (cell : Cell) → List·Memᴰ (n, cell) (nodes (circuit .net)) →
+      topOf circuit n ≡ last (readyAt (topOf circuit)) (cell .pins)
+  unfolding topsOf
+  top-fixed n cell m =
+      grow-fixed 0 topStep
+      (λ cell f h q. last-cong (readyAt f) (readyAt h) (cell .pins) (λ p i. ap (λ t. t + p .delay) (q p i)))
+      (circuit .arrivals) (circuit .net .gates) (circuit .net .inputs) (sym e) (valid-gates (circuit .net) v) n cell m
 
-    -- a gate's time, from its drivers' values and times
-    time-fixed : (vector : List Bool) (n : ℕ) (cell : Cell) → List·Memᴰ (n, cell) (nodes net) →
-        timeOf net arrivals vector n
-        ≡ settles (λ (p : Pin). valueOf net vector (p .driver)) (readyAt (timeOf net arrivals vector)) (cell .kind)
-        (cell .pins)
-    unfolding timesOf
-    time-fixed vector n cell m =
-        grow-fixed 0 (timeStep (valueOf net vector))
-        (λ cell f h q.
-        settles-cong (λ (p : Pin). valueOf net vector (p .driver)) (λ (p : Pin). valueOf net vector (p .driver))
-        (readyAt f) (readyAt h) (cell .kind) (cell .pins) (λ p i. refl) (λ p i. ap (λ t. t + p .delay) (q p i)))
-        arrivals (net .gates) (net .inputs) (sym e) (valid-gates net v) n cell m
+  -- a gate's time, from its drivers' values and times
+  time-fixed : (vector : List Bool) (n : ℕ) (cell : Cell) → List·Memᴰ (n, cell) (nodes (circuit .net)) →
+      timeOf circuit vector n
+      ≡ settles (λ (p : Pin). valueOf (circuit .net) vector (p .driver)) (readyAt (timeOf circuit vector)) (cell .kind)
+      (cell .pins)
+  unfolding timesOf
+  time-fixed vector n cell m =
+      grow-fixed 0 (timeStep (valueOf (circuit .net) vector))
+      (λ cell f h q.
+      settles-cong (λ (p : Pin). valueOf (circuit .net) vector (p .driver)) (λ (p : Pin). valueOf (circuit .net) vector (p .driver))
+      (readyAt f) (readyAt h) (cell .kind) (cell .pins) (λ p i. refl) (λ p i. ap (λ t. t + p .delay) (q p i)))
+      (circuit .arrivals) (circuit .net .gates) (circuit .net .inputs) (sym e) (valid-gates (circuit .net) v) n cell m
 
-    time-top : (vector : List Bool) (n : ℕ) → n < nodeCount net → timeOf net arrivals vector n ≤ topOf net arrivals n
-    time-top vector =
-        by-nodes net v (λ n. timeOf net arrivals vector n ≤ topOf net arrivals n)
-        (λ n h. let a = input-at net arrivals vector e n h in let b = input-top net arrivals e n h in omega arith)
-        (λ n cell m r.
-        let a = time-fixed vector n cell m in
-        let b = top-fixed n cell m in
-        let c =
-        settles-last (λ (p : Pin). valueOf net vector (p .driver)) (readyAt (timeOf net arrivals vector)) (cell .kind)
-        (cell .pins)
-        in
-        let d =
-        last-mono (readyAt (timeOf net arrivals vector)) (readyAt (topOf net arrivals)) (cell .pins)
-        (λ p i. let q = r p i in omega arith)
-        in
-        omega arith)
+  time-top : (vector : List Bool) (n : ℕ) → n < nodeCount (circuit .net) → timeOf circuit vector n ≤ topOf circuit n
+  time-top vector =
+      by-nodes (circuit .net) v (λ n. timeOf circuit vector n ≤ topOf circuit n)
+      (λ n h. let a = input-at circuit vector e n h in let b = input-top circuit e n h in omega arith)
+      (λ n cell m r.
+      let a = time-fixed vector n cell m in
+      let b = top-fixed n cell m in
+      let c =
+      settles-last (λ (p : Pin). valueOf (circuit .net) vector (p .driver)) (readyAt (timeOf circuit vector)) (cell .kind)
+      (cell .pins)
+      in
+      let d =
+      last-mono (readyAt (timeOf circuit vector)) (readyAt (topOf circuit)) (cell .pins)
+      (λ p i. let q = r p i in omega arith)
+      in
+      omega arith)
 
-    -- the fixpoint equations, and times against tops
-    pub runs : (vector : List Bool) → length vector ≡ net .inputs →
-        Runs (net .inputs) (nodeCount net) (nodes net) (valueOf net vector) (timeOf net arrivals vector)
-        (topOf net arrivals)
-    runs vector f =
-        record {
-          value-fixed = value-fixed vector f;
-          time-fixed = time-fixed vector;
-          top-fixed = top-fixed;
-          input-time = λ n h. input-at net arrivals vector e n h ∙ sym (input-top net arrivals e n h);
-          time-top = time-top vector;
-        }
+  -- the fixpoint equations, and times against tops
+  pub runs : (vector : List Bool) → length vector ≡ circuit .net .inputs →
+      Runs (circuit .net .inputs) (nodeCount (circuit .net)) (nodes (circuit .net)) (valueOf (circuit .net) vector) (timeOf circuit vector)
+      (topOf circuit)
+  runs vector f =
+      record {
+        value-fixed = value-fixed (circuit .net) v vector f;
+        time-fixed = time-fixed vector;
+        top-fixed = top-fixed;
+        input-time = λ n h. input-at circuit vector e n h ∙ sym (input-top circuit e n h);
+        time-top = time-top vector;
+      }
 
-    -- a top grows by at most 999 a gate
-    top-grows : (late : ℕ) → ((n : ℕ) → n < net .inputs → getD arrivals n 0 ≤ late) → (n : ℕ) → n < nodeCount net →
-        topOf net arrivals n ≤ late + (suc n - net .inputs) * 999
-    top-grows late inputs =
-        by-nodes net v (λ n. topOf net arrivals n ≤ late + (suc n - net .inputs) * 999)
-        (λ n h. let a = input-top net arrivals e n h in let b = inputs n h in omega arith)
-        (λ n cell m r.
-        let a = top-fixed n cell m in
-        let low = node-range n cell m .0 in
-        let b =
-        last-within (readyAt (topOf net arrivals)) (cell .pins) (late + (suc n - net .inputs) * 999)
-        (λ p i.
-        let q = r p i in
-        let s = laid .small n cell m p i in
-        let l = laid .below n cell m p i in
-        omega arith)
-        in
-        omega arith)
+  -- a top grows by at most 999 a gate
+  top-grows : (late : ℕ) → ((n : ℕ) → n < circuit .net .inputs → getD (circuit .arrivals) n 0 ≤ late) → (n : ℕ) → n < nodeCount (circuit .net) →
+      topOf circuit n ≤ late + (suc n - circuit .net .inputs) * 999
+  top-grows late inputs =
+      by-nodes (circuit .net) v (λ n. topOf circuit n ≤ late + (suc n - circuit .net .inputs) * 999)
+      (λ n h. let a = input-top circuit e n h in let b = inputs n h in omega arith)
+      (λ n cell m r.
+      let a = top-fixed n cell m in
+      let low = node-range (circuit .net) v n cell m .0 in
+      let b =
+      last-within (readyAt (topOf circuit)) (cell .pins) (late + (suc n - circuit .net .inputs) * 999)
+      (λ p i.
+      let q = r p i in
+      let s = laid (circuit .net) v .small n cell m p i in
+      let l = laid (circuit .net) v .below n cell m p i in
+      omega arith)
+      in
+      omega arith)
 
-    -- so with arrivals of at most `late` no top is above late + 448 * 999
-    pub tops-within : (late : ℕ) → ((n : ℕ) → n < net .inputs → getD arrivals n 0 ≤ late) → (n : ℕ) →
-        topOf net arrivals n ≤ late + 447552
-    tops-within late inputs n = go (decide (ltb n (nodeCount net)))
-      where
-        go : T (ltb n (nodeCount net)) ⊎ (T (ltb n (nodeCount net)) → ⊥) → topOf net arrivals n ≤ late + 447552
-        go (inl t) =
-            let h = ltb→lt n (nodeCount net) t in
-            let a = top-grows late inputs n h in
-            let b = valid-gates-few net v in
-            omega arith
-        go (inr f) =
-            let h = nltb→le n (nodeCount net) (not-T (ltb n (nodeCount net)) f) in
-            let l : length (topsOf net arrivals) ≤ n = omega (arith, tops-length net arrivals e) in
-            let z = List·getD-eq-default (topsOf net arrivals) 0 {n = n} l in
-            omega arith
+  -- so with (circuit .arrivals) of at most `late` no top is above late + 448 * 999
+  pub tops-within : (late : ℕ) → ((n : ℕ) → n < circuit .net .inputs → getD (circuit .arrivals) n 0 ≤ late) → (n : ℕ) →
+      topOf circuit n ≤ late + 447552
+  tops-within late inputs n = go (decide (ltb n (nodeCount (circuit .net))))
+    where
+      go : T (ltb n (nodeCount (circuit .net))) ⊎ (T (ltb n (nodeCount (circuit .net))) → ⊥) → topOf circuit n ≤ late + 447552
+      go (inl t) =
+          let h = ltb→lt n (nodeCount (circuit .net)) t in
+          let a = top-grows late inputs n h in
+          let b = valid-gates-few (circuit .net) v in
+          omega arith
+      go (inr f) =
+          let h = nltb→le n (nodeCount (circuit .net)) (not-T (ltb n (nodeCount (circuit .net))) f) in
+          let l : length (topsOf circuit) ≤ n = omega (arith, tops-length circuit e) in
+          let z = List·getD-eq-default (topsOf circuit) 0 {n = n} l in
+          omega arith
 
-    -- nor any time
-    pub times-within : (late : ℕ) → ((n : ℕ) → n < net .inputs → getD arrivals n 0 ≤ late) → (vector : List Bool) →
-        (n : ℕ) → timeOf net arrivals vector n ≤ late + 447552
-    times-within late inputs vector n = go (decide (ltb n (nodeCount net)))
-      where
-        go : T (ltb n (nodeCount net)) ⊎ (T (ltb n (nodeCount net)) → ⊥) →
-            timeOf net arrivals vector n ≤ late + 447552
-        go (inl t) =
-            let a = time-top vector n (ltb→lt n (nodeCount net) t) in
-            let b = tops-within late inputs n in
-            omega arith
-        go (inr f) =
-            let h = nltb→le n (nodeCount net) (not-T (ltb n (nodeCount net)) f) in
-            let l : length (timesOf net arrivals vector) ≤ n = omega (arith, times-length net arrivals vector e) in
-            let z = List·getD-eq-default (timesOf net arrivals vector) 0 {n = n} l in
-            omega arith
+  -- nor any time
+  pub times-within : (late : ℕ) → ((n : ℕ) → n < circuit .net .inputs → getD (circuit .arrivals) n 0 ≤ late) → (vector : List Bool) →
+      (n : ℕ) → timeOf circuit vector n ≤ late + 447552
+  times-within late inputs vector n = go (decide (ltb n (nodeCount (circuit .net))))
+    where
+      go : T (ltb n (nodeCount (circuit .net))) ⊎ (T (ltb n (nodeCount (circuit .net))) → ⊥) →
+          timeOf circuit vector n ≤ late + 447552
+      go (inl t) =
+          let a = time-top vector n (ltb→lt n (nodeCount (circuit .net)) t) in
+          let b = tops-within late inputs n in
+          omega arith
+      go (inr f) =
+          let h = nltb→le n (nodeCount (circuit .net)) (not-T (ltb n (nodeCount (circuit .net))) f) in
+          let l : length (timesOf circuit vector) ≤ n = omega (arith, times-length circuit vector e) in
+          let z = List·getD-eq-default (timesOf circuit vector) 0 {n = n} l in
+          omega arith
 
-  -- ---- all arrivals zero: "An input settles at 0."
+-- ---- all inputs arrive at 0
 
-  zero-arrival : (n : ℕ) → n < net .inputs → getD (atZero net) n 0 ≤ 0
+pub zero-arrives : (net : Netlist) → Arrives (atZero net)
+zero-arrives net = length-replicate (net .inputs) 0
+
+module _ (net : Netlist) (v : T (valid net)) where
+  zero-arrival : (n : ℕ) → n < net .inputs → getD (atZero net .arrivals) n 0 ≤ 0
   zero-arrival n h = let e = getD-replicate {A = ℕ} (net .inputs) n 0 0 h in omega arith
 
   -- no top is above 448 * 999
-  pub tops-small : (n : ℕ) → topOf net (atZero net) n ≤ 447552
-  tops-small n =
-      let b = tops-within (atZero net) (length-replicate (net .inputs) 0) 0 zero-arrival n in omega arith
+  pub tops-small : (n : ℕ) → topOf (atZero net) n ≤ 447552
+  tops-small n = let b = tops-within (atZero net) v (zero-arrives net) 0 zero-arrival n in omega arith
 
   -- nor any time
-  pub times-small : (vector : List Bool) (n : ℕ) → timeOf net (atZero net) vector n ≤ 447552
-  times-small vector n =
-      let b = times-within (atZero net) (length-replicate (net .inputs) 0) 0 zero-arrival vector n in omega arith
+  pub times-small : (vector : List Bool) (n : ℕ) → timeOf (atZero net) vector n ≤ 447552
+  times-small vector n = let b = times-within (atZero net) v (zero-arrives net) 0 zero-arrival vector n in omega arith
 
   -- nor the circuit's
-  pub circuit-small : (vector : List Bool) → circuitTime net (atZero net) vector ≤ 447552
+  pub circuit-small : (vector : List Bool) → circuitTime (atZero net) vector ≤ 447552
   unfolding circuitTime
   circuit-small vector =
-      last-within (timeOf net (atZero net) vector) (net .outputs) 447552 (λ o m. times-small vector o)
+      last-within (timeOf (atZero net) vector) (net .outputs) 447552 (λ o m. times-small vector o)
 
 -- the circuit settles at t+1 or later exactly when some output does
-pub circuit-late : (net : Netlist) (arrivals : List ℕ) (vector : List Bool) (t : ℕ) →
-    leb (suc t) (circuitTime net arrivals vector) ≡ any (λ o. leb (suc t) (timeOf net arrivals vector o)) (net .outputs)
+pub circuit-late : (circuit : Circuit) (vector : List Bool) (t : ℕ) →
+    leb (suc t) (circuitTime circuit vector)
+    ≡ any (λ o. leb (suc t) (timeOf circuit vector o)) (circuit .net .outputs)
 unfolding circuitTime
-circuit-late net arrivals vector t = last-late (timeOf net arrivals vector) t (net .outputs)
+circuit-late circuit vector t = last-late (timeOf circuit vector) t (circuit .net .outputs)

@@ -24,12 +24,12 @@ use lib.ListN.{
 use lib.Seq.{take-at, drop-append-add, drop-drop}
 use Rattle.netlist.specs.declared.Shape.{Shape}
 use Rattle.netlist.specs.Kinds.{bit}
-use Rattle.netlist.specs.File.{netlistAt, outputAt}
+use Rattle.netlist.specs.File.{netlistAt, circuitAt, outputAt}
 use Rattle.netlist.specs.Holds.{Holds}
 use Rattle.netlist.proofs.Entries.{outputs-from, outputs-done, node-count}
 use Rattle.netlist.proofs.Valid.{valid-outputs}
 use Rattle.settle.specs.declared.Settled.the-variants.{At}
-use Rattle.settle.specs.Settling.{last, valuesOf, timesOf, timeOf, atZero, circuitTime}
+use Rattle.settle.specs.Settling.{last, valuesOf, timesOf, timeOf, circuitTime}
 use Rattle.settle.specs.Promise.{Meets, bits, settled}
 use Rattle.settle.specs.Steps.{Entered, Begun, Done, Usable}
 use Rattle.settle.proofs.Argument.{last-cong}
@@ -164,7 +164,7 @@ module _ {shape : Shape} {vector values₀ times₀ values times : List ℕ}
         times-are =
             d .times-are
             ∙ ap₂ (λ (l r : List ℕ).
-            timesOf (netlistAt file shape) (atZero (netlistAt file shape)) (bits l) ++ r) begins
+            timesOf (circuitAt file shape) (bits l) ++ r) begins
             (behind-times (shape .inputs + shape .gates) n);
       }
 
@@ -199,18 +199,18 @@ module _ {file : List ℕ} {shape : Shape} {times : List ℕ} {latest position :
 
 -- over the netlist's times it is the circuit's
 pub circuit-is : {file : List ℕ} {shape : Shape} (h : Holds file shape) (vector : List Bool) (rest : List ℕ) →
-    length (timesOf (netlistAt file shape) (atZero (netlistAt file shape)) vector) ≡ shape .inputs + shape .gates →
+    length (timesOf (circuitAt file shape) vector) ≡ shape .inputs + shape .gates →
     last
-    (λ node. getD (timesOf (netlistAt file shape) (atZero (netlistAt file shape)) vector ++ rest) node 0)
+    (λ node. getD (timesOf (circuitAt file shape) vector ++ rest) node 0)
     (netlistAt file shape .outputs)
-    ≡ circuitTime (netlistAt file shape) (atZero (netlistAt file shape)) vector
+    ≡ circuitTime (circuitAt file shape) vector
 unfolding circuitTime
 circuit-is {file} {shape} h vector rest l =
     last-cong
-    (λ node. getD (timesOf (netlistAt file shape) (atZero (netlistAt file shape)) vector ++ rest) node 0)
-    (timeOf (netlistAt file shape) (atZero (netlistAt file shape)) vector) (netlistAt file shape .outputs)
+    (λ node. getD (timesOf (circuitAt file shape) vector ++ rest) node 0)
+    (timeOf (circuitAt file shape) vector) (netlistAt file shape .outputs)
     (λ o m.
-    List·getD-append (timesOf (netlistAt file shape) (atZero (netlistAt file shape)) vector) rest 0 o
+    List·getD-append (timesOf (circuitAt file shape) vector) rest 0 o
     (omega (arith, valid-outputs (netlistAt file shape) (h .valid) o m, node-count file shape)))
 
 -- ---- zeros behind the nodes
@@ -237,7 +237,7 @@ pub settled-is : {file : List ℕ} {shape : Shape} {vector values₀ times₀ va
     ≡ take (shape .inputs + shape .gates) values ++ replicate (length values - (shape .inputs + shape .gates)) 0 →
     timesAfter
     ≡ take (shape .inputs + shape .gates) times ++ replicate (length times - (shape .inputs + shape .gates)) 0 →
-    Meets (settled (netlistAt file shape) vector (length values₀) (length times₀)) (At time) valuesAfter timesAfter
+    Meets (settled (circuitAt file shape) vector (length values₀) (length times₀)) (At time) valuesAfter timesAfter
 unfolding settled
 settled-is {file} {shape} {vector} {values₀} {times₀} {values} {times} h u d time valuesAfter timesAfter t v w =
     let long : length (bits vector) ≡ shape .inputs = length-map vector (λ byte. eqb byte 1) ∙ u .long in

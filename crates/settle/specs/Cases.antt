@@ -5,7 +5,7 @@ use mathlib.Core.List.{List, [], _∷_, map}
 use Prim.Native.Nat.{ℕ}
 use lib.ListN.{length}
 use Rattle.netlist.specs.Kinds.{fewest, most, kindOf}
-use Rattle.netlist.specs.File.{tableBytes, shapeOf, gateAt, pinAt, cellOf, cellAt, netlistAt, netlistOf, pinsFrom}
+use Rattle.netlist.specs.File.{tableBytes, shapeOf, gateAt, pinAt, cellOf, cellAt, netlistAt, circuitOf, pinsFrom}
 use Rattle.netlist.specs.Open.{
   netlistRows,
   firstWrong,
@@ -23,7 +23,7 @@ use Rattle.netlist.specs.Open.{
 }
 use Rattle.netlist.specs.Example.{circuitA}
 use Rattle.settle.specs.declared.Settled.the-variants.{At}
-use Rattle.settle.specs.Settling.{gateValue, settles, grow, valuesOf, timesOf, topsOf, atZero, circuitTime}
+use Rattle.settle.specs.Settling.{gateValue, settles, grow, valuesOf, timesOf, topsOf, circuitTime}
 use Rattle.settle.specs.Promise.{Evaluation, evaluation, givenRows, settled, byteWrong}
 
 -- one case: a file, a vector, and what an evaluation with just enough room gives
@@ -86,6 +86,6 @@ unfolding
 cases-hold = refl
 
 -- "Topological delay 5": the tops of circuit A
-pub tops-hold : topsOf (netlistOf circuitA) (atZero (netlistOf circuitA)) ≡ 0 ∷ 0 ∷ 3 ∷ 4 ∷ 5 ∷ []
+pub tops-hold : topsOf (circuitOf circuitA) ≡ 0 ∷ 0 ∷ 3 ∷ 4 ∷ 5 ∷ []
 unfolding circuitA kindOf tableBytes shapeOf gateAt pinAt pinsFrom cellOf cellAt netlistAt grow topsOf
 tops-hold = refl

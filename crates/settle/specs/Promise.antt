@@ -9,12 +9,12 @@ use lib.ListN.{length, replicate}
 use Rattle.refusal.specs.declared.Refusal.{Refusal}
 use Rattle.refusal.specs.declared.Refusal.the-variants.{Vector}
 use Rattle.refusal.specs.Rows.{Row, checked, unlessRefused, roomRow}
-use Rattle.netlist.specs.Netlist.{Netlist, nodeCount}
+use Rattle.netlist.specs.Netlist.{Circuit, nodeCount}
 use Rattle.netlist.specs.Kinds.{bit}
 use Rattle.netlist.specs.Open.{firstWrong, callOver}
 use Rattle.settle.specs.declared.Settled.{Settled}
 use Rattle.settle.specs.declared.Settled.the-variants.{At, Refused}
-use Rattle.settle.specs.Settling.{valuesOf, timesOf, atZero, circuitTime}
+use Rattle.settle.specs.Settling.{valuesOf, timesOf, circuitTime}
 
 -- a vector's bytes as Bools
 abbrev pub bits : List ℕ → List Bool
@@ -38,12 +38,12 @@ refused valuesRoom timesRoom refusal =
     record { answer = Refused refusal; values = replicate valuesRoom 0; times = replicate timesRoom 0 }
 
 -- values and times, and zeros in "whatever part wasn't needed"
-unfoldable pub settled : Netlist → List ℕ → ℕ → ℕ → Evaluation
-settled net vector valuesRoom timesRoom =
+unfoldable pub settled : Circuit → List ℕ → ℕ → ℕ → Evaluation
+settled circuit vector valuesRoom timesRoom =
     record {
-      answer = At (circuitTime net (atZero net) (bits vector));
-      values = map bit (valuesOf net (bits vector)) ++ replicate (valuesRoom - nodeCount net) 0;
-      times = timesOf net (atZero net) (bits vector) ++ replicate (timesRoom - nodeCount net) 0;
+      answer = At (circuitTime circuit (bits vector));
+      values = map bit (valuesOf (circuit .net) (bits vector)) ++ replicate (valuesRoom - nodeCount (circuit .net)) 0;
+      times = timesOf circuit (bits vector) ++ replicate (timesRoom - nodeCount (circuit .net)) 0;
     }
 
 -- how many bytes of a vector stand before the first that is over 1
@@ -61,19 +61,19 @@ unfoldable pub givenRows : ℕ → ℕ → List ℕ → ℕ → ℕ → List Row
 givenRows inputs count vector valuesRoom timesRoom =
     vectorRows inputs vector ++ (roomRow count valuesRoom ∷ roomRow count timesRoom ∷ [])
 
--- of a netlist
-abbrev pub evaluationRows : Netlist → List ℕ → ℕ → ℕ → List Row
-evaluationRows net vector valuesRoom timesRoom =
-    givenRows (net .inputs) (nodeCount net) vector valuesRoom timesRoom
+-- of a circuit
+abbrev pub evaluationRows : Circuit → List ℕ → ℕ → ℕ → List Row
+evaluationRows circuit vector valuesRoom timesRoom =
+    givenRows (circuit .net .inputs) (nodeCount (circuit .net)) vector valuesRoom timesRoom
 
--- of an accepted netlist
-unfoldable pub evaluationOf : Netlist → List ℕ → ℕ → ℕ → Evaluation
-evaluationOf net vector valuesRoom timesRoom =
-    unlessRefused (checked (evaluationRows net vector valuesRoom timesRoom)) (refused valuesRoom timesRoom)
-    (settled net vector valuesRoom timesRoom)
+-- of an accepted circuit
+unfoldable pub evaluationOf : Circuit → List ℕ → ℕ → ℕ → Evaluation
+evaluationOf circuit vector valuesRoom timesRoom =
+    unlessRefused (checked (evaluationRows circuit vector valuesRoom timesRoom)) (refused valuesRoom timesRoom)
+    (settled circuit vector valuesRoom timesRoom)
 
 -- of any bytes and any vector, with room for so many values and times
 unfoldable pub evaluation : List ℕ → List ℕ → ℕ → ℕ → Evaluation
 evaluation file vector valuesRoom timesRoom =
-    callOver file (λ net. evaluationRows net vector valuesRoom timesRoom) (refused valuesRoom timesRoom)
-    (λ net. settled net vector valuesRoom timesRoom)
+    callOver file (λ circuit. evaluationRows circuit vector valuesRoom timesRoom) (refused valuesRoom timesRoom)
+    (λ circuit. settled circuit vector valuesRoom timesRoom)

@@ -2,11 +2,11 @@
 use mathlib.Core.Bool.{Bool, false, not, Bool·beq, cond}
 use mathlib.Core.List.{List, [], _∷_, _++_}
 use Prim.Native.Nat.{ℕ, _+_, max, min}
-use lib.ListN.{getD, replicate}
+use lib.ListN.{getD}
 use Rattle.basics.specs.Lists.{any}
 use Rattle.netlist.specs.declared.Kind.{Kind}
 use Rattle.netlist.specs.declared.Kind.the-variants.{Simple, Parity, Mux}
-use Rattle.netlist.specs.Netlist.{Netlist, Cell, Pin}
+use Rattle.netlist.specs.Netlist.{Netlist, Circuit, Cell, Pin}
 
 -- ---- one gate, over any kind of pins: what `value` a pin has, and when it is `ready`
 
@@ -70,27 +70,23 @@ abbrev pub valueOf : Netlist → List Bool → ℕ → Bool
 valueOf net vector node = getD (valuesOf net vector) node false
 
 -- the settling times of all nodes; the inputs settle at their arrivals
-unfoldable pub timesOf : Netlist → List ℕ → List Bool → List ℕ
-timesOf net arrivals vector =
-    grow 0 (λ g time. settles (λ p. valueOf net vector (p .driver)) (readyAt time) (g .kind) (g .pins)) arrivals
-    (net .gates)
+unfoldable pub timesOf : Circuit → List Bool → List ℕ
+timesOf circuit vector =
+    grow 0 (λ g time. settles (λ p. valueOf (circuit .net) vector (p .driver)) (readyAt time) (g .kind) (g .pins))
+    (circuit .arrivals) (circuit .net .gates)
 
 -- a node's settling time
-abbrev pub timeOf : Netlist → List ℕ → List Bool → ℕ → ℕ
-timeOf net arrivals vector node = getD (timesOf net arrivals vector) node 0
-
--- "An input settles at 0."
-abbrev pub atZero : Netlist → List ℕ
-atZero net = replicate (net .inputs) 0
+abbrev pub timeOf : Circuit → List Bool → ℕ → ℕ
+timeOf circuit vector node = getD (timesOf circuit vector) node 0
 
 -- "The circuit settles at the largest time of its outputs."
-unfoldable pub circuitTime : Netlist → List ℕ → List Bool → ℕ
-circuitTime net arrivals vector = last (timeOf net arrivals vector) (net .outputs)
+unfoldable pub circuitTime : Circuit → List Bool → ℕ
+circuitTime circuit vector = last (timeOf circuit vector) (circuit .net .outputs)
 
 -- "top(node) is the longest sum of delays to it, 0 for an input."
-unfoldable pub topsOf : Netlist → List ℕ → List ℕ
-topsOf net arrivals = grow 0 (λ g top. last (readyAt top) (g .pins)) arrivals (net .gates)
+unfoldable pub topsOf : Circuit → List ℕ
+topsOf circuit = grow 0 (λ g top. last (readyAt top) (g .pins)) (circuit .arrivals) (circuit .net .gates)
 
 -- a node's top
-abbrev pub topOf : Netlist → List ℕ → ℕ → ℕ
-topOf net arrivals node = getD (topsOf net arrivals) node 0
+abbrev pub topOf : Circuit → ℕ → ℕ
+topOf circuit node = getD (topsOf circuit) node 0

@@ -10,11 +10,11 @@ use Rattle.netlist.specs.declared.Kind.{Kind}
 use Rattle.netlist.specs.declared.Shape.{Shape}
 use Rattle.netlist.specs.Netlist.{Pin}
 use Rattle.netlist.specs.Kinds.{bit}
-use Rattle.netlist.specs.File.{driverAt, netlistAt}
+use Rattle.netlist.specs.File.{driverAt, netlistAt, circuitAt}
 use Rattle.netlist.specs.Holds.{Tables}
 use Rattle.settle.specs.declared.Signal.{Signal}
 use Rattle.settle.specs.declared.Scan.{Scan}
-use Rattle.settle.specs.Settling.{gateValue, settles, readyAt, valuesOf, timesOf, atZero}
+use Rattle.settle.specs.Settling.{gateValue, settles, readyAt, valuesOf, timesOf}
 use Rattle.settle.specs.Promise.{bits}
 
 -- ---- a gate's pins, over the lent slices
@@ -80,7 +80,7 @@ pub record Done (file : List ℕ) (shape : Shape) (vector : List Bool) (values�
       values ≡ map bit (valuesOf (netlistAt file shape) vector) ++ drop (shape .inputs + shape .gates) values₀
   pub times-are :
       times
-      ≡ timesOf (netlistAt file shape) (atZero (netlistAt file shape)) vector
+      ≡ timesOf (circuitAt file shape) vector
       ++ drop (shape .inputs + shape .gates) times₀
 
 -- the vector has a bit for each input, and the slices have room for all nodes

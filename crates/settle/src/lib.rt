@@ -11,7 +11,7 @@ ghost use lib.Dec.{T};
 ghost use lib.ListN.{length, getD, take};
 ghost use Rattle.netlist.specs.Kinds.{bit};
 ghost use Rattle.netlist.specs.Netlist.{takes};
-ghost use Rattle.netlist.specs.File.{pinAt, netlistAt, pinsFrom};
+ghost use Rattle.netlist.specs.File.{pinAt, netlistAt, circuitAt, pinsFrom};
 ghost use Rattle.netlist.specs.Holds.{Holds};
 ghost use Rattle.netlist.specs.declared.Kind.the-variants.{Simple, Parity, Mux};
 ghost use Rattle.settle.specs.Settling.{last};
@@ -279,7 +279,7 @@ fn settle_all(
     times: &mut [u32],
 ) -> Settled
     requires { ⌜ Holds (now file) shape × Usable shape (now vector) (length (now values)) (length (now times)) ⌝ }
-    ensures { λ r. ⌜ Meets (settled (netlistAt (now (file .entry)) shape) (now (vector .entry))
+    ensures { λ r. ⌜ Meets (settled (circuitAt (now (file .entry)) shape) (now (vector .entry))
         (length (now (values .entry))) (length (now (times .entry)))) r (now (values .exit)) (now (times .exit)) ⌝ }
 {
     let nodes = shape.inputs + shape.gates;
@@ -350,7 +350,7 @@ pub fn evaluate_accepted(
     times: &mut [u32],
 ) -> Settled
     requires { ⌜ Holds (now file) shape ⌝ }
-    ensures { λ r. ⌜ Meets (evaluationOf (netlistAt (now (file .entry)) shape) (now (vector .entry))
+    ensures { λ r. ⌜ Meets (evaluationOf (circuitAt (now (file .entry)) shape) (now (vector .entry))
         (length (now (values .entry))) (length (now (times .entry)))) r (now (values .exit)) (now (times .exit)) ⌝ }
 {
     let inputs = shape.inputs;
