@@ -13,8 +13,7 @@ use Rattle.refusal.specs.declared.Checked.{Checked}
 use Rattle.refusal.specs.declared.Checked.the-variants.{Passes, Refused as Fails}
 use Rattle.refusal.specs.Rows.{checked, unlessRefused, roomRow}
 use Rattle.refusal.proofs.Rows.{passed-by}
-use Rattle.netlist.specs.Netlist.{Netlist}
-use Rattle.settle.specs.Settling.{atZero}
+use Rattle.netlist.specs.Netlist.{Circuit}
 use Rattle.pairs.specs.Pairs.{pairsFor}
 use Rattle.formula.specs.declared.Built.{Built}
 use Rattle.formula.specs.declared.Built.the-variants.{Formula, Refused}
@@ -29,52 +28,52 @@ use Rattle.formula.specs.Promise.{
   buildingOf,
 }
 
-module _ (net : Netlist) (target pairsRoom formulaRoom : ℕ) where
-  module _ {answer : Built} (a : answer ≡ buildingOf net target pairsRoom formulaRoom .answer) where
+module _ (circuit : Circuit) (target pairsRoom formulaRoom : ℕ) where
+  module _ {answer : Built} (a : answer ≡ buildingOf circuit target pairsRoom formulaRoom .answer) where
     -- a refusal is theirs
     pub answer-refused : {refusal : Refusal} → answer ≡ Refused refusal →
-        checked (buildingRows net target pairsRoom formulaRoom) ≡ Fails refusal
+        checked (buildingRows circuit target pairsRoom formulaRoom) ≡ Fails refusal
     unfolding buildingOf built
-    answer-refused {refusal} e = go (checked (buildingRows net target pairsRoom formulaRoom)) (sym a ∙ e)
+    answer-refused {refusal} e = go (checked (buildingRows circuit target pairsRoom formulaRoom)) (sym a ∙ e)
       where
         go : (c : Checked) →
-            unlessRefused c (refused pairsRoom formulaRoom) (built net target pairsRoom formulaRoom) .answer
+            unlessRefused c (refused pairsRoom formulaRoom) (built circuit target pairsRoom formulaRoom) .answer
             ≡ Refused refusal → c ≡ Fails refusal
         go Passes e = let w : _≡_ {A = ℕ} 0 1 = cc in absurd (omega arith)
         go (Fails r) e = cc
 
     -- with counts they are passed, and the counts are the list's
     pub answer-counts : {counts : Counts} → answer ≡ Formula counts →
-        (checked (buildingRows net target pairsRoom formulaRoom) ≡ Passes) × (counts ≡ countsFor net target)
+        (checked (buildingRows circuit target pairsRoom formulaRoom) ≡ Passes) × (counts ≡ countsFor circuit target)
     unfolding buildingOf built
-    answer-counts {counts} e = go (checked (buildingRows net target pairsRoom formulaRoom)) (sym a ∙ e)
+    answer-counts {counts} e = go (checked (buildingRows circuit target pairsRoom formulaRoom)) (sym a ∙ e)
       where
         go : (c : Checked) →
-            unlessRefused c (refused pairsRoom formulaRoom) (built net target pairsRoom formulaRoom) .answer
-            ≡ Formula counts → (c ≡ Passes) × (counts ≡ countsFor net target)
+            unlessRefused c (refused pairsRoom formulaRoom) (built circuit target pairsRoom formulaRoom) .answer
+            ≡ Formula counts → (c ≡ Passes) × (counts ≡ countsFor circuit target)
         go Passes e = (refl, cc)
         go (Fails r) e = let w : _≡_ {A = ℕ} 0 1 = cc in absurd (omega arith)
 
   -- where they are passed, the pairs fit the table and the numbers the slice
-  module _ (e : checked (buildingRows net target pairsRoom formulaRoom) ≡ Passes) where
-    pub passed-built : buildingOf net target pairsRoom formulaRoom ≡ built net target pairsRoom formulaRoom
+  module _ (e : checked (buildingRows circuit target pairsRoom formulaRoom) ≡ Passes) where
+    pub passed-built : buildingOf circuit target pairsRoom formulaRoom ≡ built circuit target pairsRoom formulaRoom
     unfolding buildingOf
     passed-built =
         ap
         (λ (c : Checked).
-        unlessRefused c (refused pairsRoom formulaRoom) (built net target pairsRoom formulaRoom)) e
+        unlessRefused c (refused pairsRoom formulaRoom) (built circuit target pairsRoom formulaRoom)) e
 
-    pub pairs-fit : length (pairsFor net (atZero net) target) ≤ tableHolds pairsRoom
+    pub pairs-fit : length (pairsFor circuit target) ≤ tableHolds pairsRoom
     unfolding buildingRows
     pairs-fit =
-        ltb-false (tableHolds pairsRoom) (length (pairsFor net (atZero net) target))
-        (passed-by (ltb (tableHolds pairsRoom) (length (pairsFor net (atZero net) target))) Pairs
-        (roomRow (length (numbersFor net target)) formulaRoom ∷ []) e .0)
+        ltb-false (tableHolds pairsRoom) (length (pairsFor circuit target))
+        (passed-by (ltb (tableHolds pairsRoom) (length (pairsFor circuit target))) Pairs
+        (roomRow (length (numbersFor circuit target)) formulaRoom ∷ []) e .0)
 
-    pub numbers-fit : length (numbersFor net target) ≤ formulaRoom
+    pub numbers-fit : length (numbersFor circuit target) ≤ formulaRoom
     unfolding buildingRows
     numbers-fit =
-        ltb-false formulaRoom (length (numbersFor net target))
-        (passed-by (ltb formulaRoom (length (numbersFor net target))) (Room (length (numbersFor net target))) []
-        (passed-by (ltb (tableHolds pairsRoom) (length (pairsFor net (atZero net) target))) Pairs
-        (roomRow (length (numbersFor net target)) formulaRoom ∷ []) e .1) .0)
+        ltb-false formulaRoom (length (numbersFor circuit target))
+        (passed-by (ltb formulaRoom (length (numbersFor circuit target))) (Room (length (numbersFor circuit target))) []
+        (passed-by (ltb (tableHolds pairsRoom) (length (pairsFor circuit target))) Pairs
+        (roomRow (length (numbersFor circuit target)) formulaRoom ∷ []) e .1) .0)

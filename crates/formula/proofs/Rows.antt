@@ -12,13 +12,12 @@ use Rattle.refusal.specs.declared.Refusal.{Refusal}
 use Rattle.refusal.specs.declared.Refusal.the-variants.{Pairs, Room}
 use Rattle.netlist.specs.declared.Shape.{Shape}
 use Rattle.netlist.specs.declared.Opened.the-variants.{Accepted, Refused as Rejected}
-use Rattle.netlist.specs.Netlist.{Netlist, nodes, nodeCount}
-use Rattle.netlist.specs.File.{netlistAt}
+use Rattle.netlist.specs.Netlist.{nodes, nodeCount, Circuit}
+use Rattle.netlist.specs.File.{netlistAt, circuitAt}
 use Rattle.netlist.specs.Open.{openOf}
 use Rattle.netlist.specs.Holds.{Holds}
 use Rattle.netlist.proofs.Entries.{node-count}
 use Rattle.netlist.proofs.Calls.{call-accepted, call-rejected}
-use Rattle.settle.specs.Settling.{atZero}
 use Rattle.clauses.specs.Clauses.{flat}
 use Rattle.pairs.specs.declared.Listed.{Listed}
 use Rattle.pairs.specs.declared.Listed.the-variants.{Count, TooMany}
@@ -53,31 +52,31 @@ use Rattle.formula.proofs.Whole.{whole-tokens}
 
 -- ---- the rows
 
-module _ (net : Netlist) (target pairsRoom formulaRoom : ℕ) where
-  too-many : tableHolds pairsRoom < length (pairsFor net (atZero net) target) →
-      buildingOf net target pairsRoom formulaRoom ≡ refused pairsRoom formulaRoom Pairs
+module _ (circuit : Circuit) (target pairsRoom formulaRoom : ℕ) where
+  too-many : tableHolds pairsRoom < length (pairsFor circuit target) →
+      buildingOf circuit target pairsRoom formulaRoom ≡ refused pairsRoom formulaRoom Pairs
   unfolding buildingOf buildingRows
-  too-many h = rw (lt-ltb (tableHolds pairsRoom) (length (pairsFor net (atZero net) target)) h)
+  too-many h = rw (lt-ltb (tableHolds pairsRoom) (length (pairsFor circuit target)) h)
 
-  no-room : length (pairsFor net (atZero net) target) ≤ tableHolds pairsRoom →
-      formulaRoom < length (numbersFor net target) →
-      buildingOf net target pairsRoom formulaRoom
-      ≡ refused pairsRoom formulaRoom (Room (length (numbersFor net target)))
+  no-room : length (pairsFor circuit target) ≤ tableHolds pairsRoom →
+      formulaRoom < length (numbersFor circuit target) →
+      buildingOf circuit target pairsRoom formulaRoom
+      ≡ refused pairsRoom formulaRoom (Room (length (numbersFor circuit target)))
   unfolding buildingOf buildingRows
   no-room h l =
       rw (
-        le-ltb (tableHolds pairsRoom) (length (pairsFor net (atZero net) target)) h,
-        lt-ltb formulaRoom (length (numbersFor net target)) l,
+        le-ltb (tableHolds pairsRoom) (length (pairsFor circuit target)) h,
+        lt-ltb formulaRoom (length (numbersFor circuit target)) l,
       )
 
-  all-room : length (pairsFor net (atZero net) target) ≤ tableHolds pairsRoom →
-      length (numbersFor net target) ≤ formulaRoom →
-      buildingOf net target pairsRoom formulaRoom ≡ built net target pairsRoom formulaRoom
+  all-room : length (pairsFor circuit target) ≤ tableHolds pairsRoom →
+      length (numbersFor circuit target) ≤ formulaRoom →
+      buildingOf circuit target pairsRoom formulaRoom ≡ built circuit target pairsRoom formulaRoom
   unfolding buildingOf buildingRows
   all-room h l =
       rw (
-        le-ltb (tableHolds pairsRoom) (length (pairsFor net (atZero net) target)) h,
-        le-ltb formulaRoom (length (numbersFor net target)) l,
+        le-ltb (tableHolds pairsRoom) (length (pairsFor circuit target)) h,
+        le-ltb formulaRoom (length (numbersFor circuit target)) l,
       )
 
 -- ---- what is lent to `emit`
@@ -105,9 +104,9 @@ module _ (file : List ℕ) (shape : Shape) (target : ℕ) (tops table : List ℕ
       ((concatMap cellRun (nodes (netlistAt file shape))
       ++ concatMap (pairRun file shape tops table) (pairsIn table))
       ++ outputsLate file shape tops table target) before start after to →
-      Numbered (formulaFor (netlistAt file shape) (atZero (netlistAt file shape)) target) before after to
+      Numbered (formulaFor (circuitAt file shape) target) before after to
   lent-numbers {most} x =
-      emits-numbers (formulaFor (netlistAt file shape) (atZero (netlistAt file shape)) target)
+      emits-numbers (formulaFor (circuitAt file shape) target)
       (emits-as most x
       (ap₂ (λ (t b : List ℕ).
       (concatMap cellRun (nodes (netlistAt file shape)) ++ concatMap (pairRun file shape t b) (pairsIn b))
@@ -119,18 +118,18 @@ module _ (file : List ℕ) (shape : Shape) (target : ℕ) (tops table : List ℕ
 
 module _ (file : List ℕ) (shape : Shape) (target : ℕ) (table : List ℕ) (count : ℕ)
     (held : Held (pairsAt file shape target) (length table) table (Count count)) (before after : List ℤ) (to : Emitted)
-    (n : Numbered (formulaFor (netlistAt file shape) (atZero (netlistAt file shape)) target) before after to)
+    (n : Numbered (formulaFor (circuitAt file shape) target) before after to)
     (same : length after ≡ length before) where
   room-held : length (pairsAt file shape target) ≤ tableHolds (length table)
   room-held = omega (arith, held .0, held .1)
 
   pub wrote-none : (pairs : List ℕ) (formula : List ℤ) → length after < to .numbers →
       pairs ≡ replicate (length table) 0 → formula ≡ replicate (length after) (pos 0) →
-      Meets (buildingOf (netlistAt file shape) target (length table) (length before)) (Refused (Room (to .numbers)))
+      Meets (buildingOf (circuitAt file shape) target (length table) (length before)) (Refused (Room (to .numbers)))
       pairs formula
   unfolding numbersFor
   wrote-none pairs formula h e f =
-      rw (no-room (netlistAt file shape) target (length table) (length before) room-held (omega (arith, n .numbers)))
+      rw (no-room (circuitAt file shape) target (length table) (length before) room-held (omega (arith, n .numbers)))
       (record {
         answer-is = ap (λ (m : ℕ). Refused (Room m)) (n .numbers);
         pairs-are = e;
@@ -139,7 +138,7 @@ module _ (file : List ℕ) (shape : Shape) (target : ℕ) (table : List ℕ) (co
 
   pub wrote-all : (formula : List ℤ) → to .numbers ≤ length after →
       formula ≡ take (to .numbers) after ++ replicate (length after - to .numbers) (pos 0) →
-      Meets (buildingOf (netlistAt file shape) target (length table) (length before))
+      Meets (buildingOf (circuitAt file shape) target (length table) (length before))
       (Formula (record {
         variables = shape .inputs + shape .gates + count;
         pairs = count;
@@ -149,7 +148,7 @@ module _ (file : List ℕ) (shape : Shape) (target : ℕ) (table : List ℕ) (co
   unfolding numbersFor countsFor built
   wrote-all formula h f =
       let l = pairsAt file shape target in
-      let cs = formulaFor (netlistAt file shape) (atZero (netlistAt file shape)) target in
+      let cs = formulaFor (circuitAt file shape) target in
       let made : ℕ → ℕ → ℕ → ℕ → Counts =
       λ a b c d. record { variables = a; pairs = b; clauses = c; numbers = d }
       in
@@ -157,7 +156,7 @@ module _ (file : List ℕ) (shape : Shape) (target : ℕ) (table : List ℕ) (co
       omega (arith, held .0, node-count file shape)
       in
       let r : length after - to .numbers ≡ length before - length (flat cs) = omega (arith, n .numbers) in
-      rw (all-room (netlistAt file shape) target (length table) (length before) room-held (omega (arith, n .numbers)))
+      rw (all-room (circuitAt file shape) target (length table) (length before) room-held (omega (arith, n .numbers)))
       (record {
         answer-is =
             ap Formula
@@ -185,34 +184,34 @@ held-again l room table listed count h e =
     rw (held-length l room table listed count h e) (held-count l room table listed count h e)
 
 -- the same promise by the numbers that the caller knows
-pub meets-as : (net : Netlist) (formulaRoom : ℕ) {wanted target long room : ℕ} {answer : Built} {pairs : List ℕ}
+pub meets-as : (circuit : Circuit) (formulaRoom : ℕ) {wanted target long room : ℕ} {answer : Built} {pairs : List ℕ}
     {formula : List ℤ} → wanted ≡ target → long ≡ room →
-    Meets (buildingOf net wanted long formulaRoom) answer pairs formula →
-    Meets (buildingOf net target room formulaRoom) answer pairs formula
-meets-as net formulaRoom {answer = answer} {pairs = pairs} {formula = formula} e f m =
+    Meets (buildingOf circuit wanted long formulaRoom) answer pairs formula →
+    Meets (buildingOf circuit target room formulaRoom) answer pairs formula
+meets-as circuit formulaRoom {answer = answer} {pairs = pairs} {formula = formula} e f m =
     subst (λ (b : Building). Meets b answer pairs formula)
-    (ap₂ (λ (t r : ℕ). buildingOf net t r formulaRoom) e f) m
+    (ap₂ (λ (t r : ℕ). buildingOf circuit t r formulaRoom) e f) m
 
 pub listed-none : (file : List ℕ) (shape : Shape) (target pairsRoom formulaRoom : ℕ) (pairs : List ℕ) (formula : List ℤ)
     (listed : Listed) → Held (pairsAt file shape target) pairsRoom pairs listed → listed ≡ TooMany →
     formula ≡ replicate formulaRoom (pos 0) →
-    Meets (buildingOf (netlistAt file shape) target pairsRoom formulaRoom) (Refused Pairs) pairs formula
+    Meets (buildingOf (circuitAt file shape) target pairsRoom formulaRoom) (Refused Pairs) pairs formula
 listed-none file shape target pairsRoom formulaRoom pairs formula listed h e f =
     let w = held-too-many (pairsAt file shape target) pairsRoom pairs listed h e in
-    rw (too-many (netlistAt file shape) target pairsRoom formulaRoom (w .0))
+    rw (too-many (circuitAt file shape) target pairsRoom formulaRoom (w .0))
     (record { answer-is = refl; pairs-are = w .1; formula-is = f })
 
 module _ (file : List ℕ) (target pairsRoom formulaRoom : ℕ) where
   pub accepted : (shape : Shape) → openOf file ≡ Accepted shape →
-      building file target pairsRoom formulaRoom ≡ buildingOf (netlistAt file shape) target pairsRoom formulaRoom
+      building file target pairsRoom formulaRoom ≡ buildingOf (circuitAt file shape) target pairsRoom formulaRoom
   unfolding building buildingOf
   accepted shape e =
-      call-accepted file (λ net. buildingRows net target pairsRoom formulaRoom) (refused pairsRoom formulaRoom)
-      (λ net. built net target pairsRoom formulaRoom) e
+      call-accepted file (λ circuit. buildingRows circuit target pairsRoom formulaRoom) (refused pairsRoom formulaRoom)
+      (λ circuit. built circuit target pairsRoom formulaRoom) e
 
   pub rejected : (refusal : Refusal) → openOf file ≡ Rejected refusal →
       building file target pairsRoom formulaRoom ≡ refused pairsRoom formulaRoom refusal
   unfolding building
   rejected refusal e =
-      call-rejected file (λ net. buildingRows net target pairsRoom formulaRoom) (refused pairsRoom formulaRoom)
-      (λ net. built net target pairsRoom formulaRoom) e
+      call-rejected file (λ circuit. buildingRows circuit target pairsRoom formulaRoom) (refused pairsRoom formulaRoom)
+      (λ circuit. built circuit target pairsRoom formulaRoom) e

@@ -9,12 +9,12 @@ use lib.ListN.{length, getD, length-replicate}
 use lib.Seq.{take-all}
 use Rattle.netlist.specs.declared.Shape.{Shape}
 use Rattle.netlist.specs.Netlist.{nodes}
-use Rattle.netlist.specs.File.{firstAt, countAt, driverAt, delayAt, outputAt, gateAt, pinAt, cellAt, netlistAt}
+use Rattle.netlist.specs.File.{firstAt, countAt, driverAt, delayAt, outputAt, gateAt, pinAt, cellAt, netlistAt, circuitAt}
 use Rattle.netlist.specs.Holds.{Holds}
 use Rattle.netlist.proofs.Entries.{node-count, node-has, pin-has, output-has}
 use Rattle.netlist.proofs.GateRead.{gate-takes}
 use Rattle.netlist.proofs.Valid.{takes-few}
-use Rattle.settle.specs.Settling.{topsOf, atZero}
+use Rattle.settle.specs.Settling.{topsOf}
 use Rattle.settle.proofs.Nodes.{tops-length}
 use Rattle.pairs.specs.Pairs.{flatPairs, placeOf}
 use Rattle.pairs.specs.Table.{pairAt, keyOf, Sorted}
@@ -27,7 +27,7 @@ use Rattle.formula.specs.Late.{Asking, Drivers, AllStand, OutputsAsk, Sl
 
 -- the tops of an accepted file
 abbrev pub topsAt : List ℕ → Shape → List ℕ
-topsAt file shape = topsOf (netlistAt file shape) (atZero (netlistAt file shape))
+topsAt file shape = topsOf (circuitAt file shape)
 
 -- the numbers of its pairs
 abbrev pub tableAt : List ℕ → Shape → ℕ → List ℕ
@@ -64,7 +64,7 @@ module _ (file : List ℕ) (shape : Shape) (target : ℕ) (ok : Holds file shape
 
   all-tops : length (topsAt file shape) ≡ shape .inputs + shape .gates
   all-tops =
-      tops-length (netlistAt file shape) (atZero (netlistAt file shape))
+      tops-length (circuitAt file shape)
       (length-replicate (netlistAt file shape .inputs) 0)
       ∙ node-count file shape
 
@@ -84,7 +84,7 @@ module _ (file : List ℕ) (shape : Shape) (target : ℕ) (ok : Holds file shape
     within : (shape .inputs ≤ f) × (f < shape .inputs + shape .gates)
     unfolding netlistAt
     within =
-        let w = pair-for (netlistAt file shape) (ok .valid) (atZero (netlistAt file shape)) target f t m in
+        let w = pair-for (circuitAt file shape) (ok .valid) target f t m in
         let n = node-count file shape in
         (w .0, omega (arith, w .1))
 
@@ -118,7 +118,7 @@ module _ (file : List ℕ) (shape : Shape) (target : ℕ) (ok : Holds file shape
               let b = ok .drivers-below g pin gate-here l h in
               asking (driverAt file shape pin) (t - delayAt file shape pin) (omega (arith, gate-here))
               (λ x y z.
-              driver-for net (ok .valid) (atZero net) target f (cellAt file shape g) cell-here t m
+              driver-for (circuitAt file shape) (ok .valid) target f (cellAt file shape g) cell-here t m
               (pinAt file shape pin) (pin-has file shape g pin l h) x y z);
         }
 
@@ -148,7 +148,7 @@ module _ (file : List ℕ) (shape : Shape) (target : ℕ) (ok : Holds file shape
             λ position h.
             asking (outputAt file shape position) target (ok .outputs-nodes position h)
             (λ x y z.
-            output-for net (ok .valid) (atZero net) target (outputAt file shape position)
+            output-for (circuitAt file shape) (ok .valid) target (outputAt file shape position)
             (output-has file shape position h) x y z);
       }
 

@@ -22,10 +22,10 @@ use Rattle.netlist.specs.declared.Kind.{Kind}
 use Rattle.netlist.specs.declared.Kind.the-variants.{Simple, Parity, Mux}
 use Rattle.netlist.specs.declared.Shape.{Shape}
 use Rattle.netlist.specs.Netlist.{Cell, Pin, nodes}
-use Rattle.netlist.specs.File.{cellAt, netlistAt}
+use Rattle.netlist.specs.File.{cellAt, netlistAt, circuitAt}
 use Rattle.netlist.proofs.Entries.{node-count, node-only}
 use Rattle.clauses.specs.Clauses.{Literal}
-use Rattle.settle.specs.Settling.{topOf, atZero}
+use Rattle.settle.specs.Settling.{topOf}
 use Rattle.pairs.specs.Pairs.{timesAt, pairList, pairsFor, placeOf}
 use Rattle.pairs.specs.Table.{pairsIn}
 use Rattle.pairs.specs.Promise.{pairsAt}
@@ -91,7 +91,7 @@ module _ {B : Type 0} (times : ℕ → List ℕ) (F : ℕ × Cell → ℕ → Li
 module _ (file : List ℕ) (shape : Shape) (target : ℕ) where
   -- a pair's variable by the table
   variables : variableIn shape (tableAt file shape target)
-      ≡ pairVariable (netlistAt file shape) (atZero (netlistAt file shape)) target
+      ≡ pairVariable (circuitAt file shape) target
   unfolding variableIn pairVariable
   variables =
       let after : ℕ → List (ℕ × ℕ) → ℕ → ℕ → ℕ = λ n l f t. suc (n + placeOf f t l) in
@@ -100,14 +100,14 @@ module _ (file : List ℕ) (shape : Shape) (target : ℕ) where
   -- a pair of the table, by its node's gate
   abbrev ofPair : ℕ × ℕ → List (List Literal)
   ofPair x =
-      pairClauses (shape .inputs) (topOf (netlistAt file shape) (atZero (netlistAt file shape))) nodeVariable
+      pairClauses (shape .inputs) (topOf (circuitAt file shape)) nodeVariable
       (variableIn shape (tableAt file shape target)) (x .0) (cellAt file shape (x .0 - shape .inputs) .kind)
       (cellAt file shape (x .0 - shape .inputs) .pins) (x .1)
 
   -- and by the gate
   abbrev ofGate : ℕ × Cell → ℕ → List (List Literal)
   ofGate x =
-      pairClauses (shape .inputs) (topOf (netlistAt file shape) (atZero (netlistAt file shape))) nodeVariable
+      pairClauses (shape .inputs) (topOf (circuitAt file shape)) nodeVariable
       (variableIn shape (tableAt file shape target)) (x .0) (x .1 .kind) (x .1 .pins)
 
   same-pair : (x : ℕ × Cell) → List·Memᴰ x (nodes (netlistAt file shape)) → (t : ℕ) → ofGate x t ≡ ofPair (x .0, t)
@@ -119,12 +119,12 @@ module _ (file : List ℕ) (shape : Shape) (target : ℕ) where
   pairs-put : concatMap (pairRun file shape (topsAt file shape) (tableAt file shape target))
       (pairsIn (tableAt file shape target))
       ≡ tokensOf (concatMap (λ x. concatMap (ofGate x)
-      (timesAt (netlistAt file shape .inputs) (topOf (netlistAt file shape) (atZero (netlistAt file shape)))
+      (timesAt (netlistAt file shape .inputs) (topOf (circuitAt file shape))
       (netlistAt file shape .outputs) target (netlistAt file shape .gates) (x .0))) (nodes (netlistAt file shape)))
   unfolding pairsFor pairList
   pairs-put =
       let net = netlistAt file shape in
-      let times = timesAt (net .inputs) (topOf net (atZero net)) (net .outputs) target (net .gates) in
+      let times = timesAt (net .inputs) (topOf (circuitAt file shape)) (net .outputs) target (net .gates) in
       ap (concatMap (pairRun file shape (topsAt file shape) (tableAt file shape target)))
       (pairs-flat (pairsAt file shape target))
       ∙ runs (pairsAt file shape target)
@@ -147,11 +147,11 @@ module _ (file : List ℕ) (shape : Shape) (target : ℕ) where
       ++ concatMap (pairRun file shape (topsAt file shape) (tableAt file shape target))
       (pairsIn (tableAt file shape target)))
       ++ outputsLate file shape (topsAt file shape) (tableAt file shape target) target
-      ≡ tokensOf (formulaFor (netlistAt file shape) (atZero (netlistAt file shape)) target)
+      ≡ tokensOf (formulaFor (circuitAt file shape) target)
   unfolding formulaFor formula netlistAt
   whole-tokens =
       let net = netlistAt file shape in
-      let top = topOf net (atZero net) in
+      let top = topOf (circuitAt file shape) in
       let times = timesAt (net .inputs) top (net .outputs) target (net .gates) in
       let v = variableIn shape (tableAt file shape target) in
       let ofCell : ℕ × Cell → List (List Literal) = λ x. gateClauses nodeVariable (x .1 .kind) (x .1 .pins) (x .0) in

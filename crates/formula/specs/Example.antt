@@ -3,8 +3,9 @@
 use mathlib.Core.Path.{_≡_, refl}
 use mathlib.Core.List.{List, [], _∷_}
 use lib.IntN.{ℤ, pos, negsuc}
+use Rattle.netlist.specs.Netlist.{atZero}
 use Rattle.netlist.specs.Example.{describedA}
-use Rattle.settle.specs.Settling.{grow, topsOf, atZero}
+use Rattle.settle.specs.Settling.{grow, topsOf}
 use Rattle.clauses.specs.Clauses.{flat}
 use Rattle.pairs.specs.Pairs.{asked, timesAt, pairList, placeOf, pairsFor}
 use Rattle.formula.specs.Formula.{clauseOf, gateClauses, late, pairClauses, formula, pairVariable, formulaFor}
@@ -21,9 +22,9 @@ printed =
 
 -- the pairs and the numbers at T=3, the counts at T=6
 pub runs :
-    (pairsFor describedA (atZero describedA) 3 ≡ (2, 1) ∷ (3, 2) ∷ (4, 3) ∷ [])
-    × (numbersFor describedA 3 ≡ printed)
-    × (countsFor describedA 6 ≡ record { variables = 5; pairs = 0; clauses = 9; numbers = 27 })
+    (pairsFor (atZero describedA) 3 ≡ (2, 1) ∷ (3, 2) ∷ (4, 3) ∷ [])
+    × (numbersFor (atZero describedA) 3 ≡ printed)
+    × (countsFor (atZero describedA) 6 ≡ record { variables = 5; pairs = 0; clauses = 9; numbers = 27 })
 unfolding
     describedA grow topsOf flat asked timesAt pairList clauseOf gateClauses late pairClauses formula placeOf pairsFor
     pairVariable formulaFor numbersFor countsFor printed

@@ -7,7 +7,7 @@ use lib.Dec.{leb, ltb}
 use Rattle.basics.specs.Lists.{any, concatMap}
 use Rattle.netlist.specs.declared.Kind.{Kind}
 use Rattle.netlist.specs.declared.Kind.the-variants.{Simple, Parity, Mux}
-use Rattle.netlist.specs.Netlist.{Netlist, Cell, Pin, nodes, nodeCount}
+use Rattle.netlist.specs.Netlist.{Cell, Pin, nodes, nodeCount, Circuit}
 use Rattle.settle.specs.Settling.{topOf}
 use Rattle.clauses.specs.Clauses.{Literal}
 use Rattle.pairs.specs.Pairs.{timesAt, pairsFor, placeOf}
@@ -108,11 +108,11 @@ abbrev pub nodeVariable : ℕ → ℕ
 nodeVariable n = suc n
 
 -- "Pairs take N+1, N+2 and on, by node rising, then t rising."
-unfoldable pub pairVariable : Netlist → List ℕ → ℕ → ℕ → ℕ → ℕ
-pairVariable net arrivals target f t = suc (nodeCount net + placeOf f t (pairsFor net arrivals target))
+unfoldable pub pairVariable : Circuit → ℕ → ℕ → ℕ → ℕ
+pairVariable circuit target f t = suc (nodeCount (circuit .net) + placeOf f t (pairsFor circuit target))
 
 -- the formula for a target
-unfoldable pub formulaFor : Netlist → List ℕ → ℕ → List (List Literal)
-formulaFor net arrivals target =
-    formula (net .inputs) (topOf net arrivals) nodeVariable (pairVariable net arrivals target) (nodes net)
-    (timesAt (net .inputs) (topOf net arrivals) (net .outputs) target (net .gates)) (net .outputs) target
+unfoldable pub formulaFor : Circuit → ℕ → List (List Literal)
+formulaFor circuit target =
+    formula (circuit .net .inputs) (topOf circuit) nodeVariable (pairVariable circuit target) (nodes (circuit .net))
+    (timesAt (circuit .net .inputs) (topOf circuit) (circuit .net .outputs) target (circuit .net .gates)) (circuit .net .outputs) target

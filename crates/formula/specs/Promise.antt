@@ -9,9 +9,8 @@ use lib.ListN.{length, replicate}
 use Rattle.refusal.specs.declared.Refusal.{Refusal}
 use Rattle.refusal.specs.declared.Refusal.the-variants.{Pairs}
 use Rattle.refusal.specs.Rows.{Row, checked, unlessRefused, roomRow}
-use Rattle.netlist.specs.Netlist.{Netlist, nodeCount}
+use Rattle.netlist.specs.Netlist.{nodeCount, Circuit}
 use Rattle.netlist.specs.Open.{callOver}
-use Rattle.settle.specs.Settling.{atZero}
 use Rattle.clauses.specs.Clauses.{flat}
 use Rattle.formula.specs.declared.Built.{Built}
 use Rattle.formula.specs.declared.Built.the-variants.{Formula, Refused}
@@ -37,17 +36,17 @@ refused pairsRoom formulaRoom refusal =
     record { answer = Refused refusal; pairs = replicate pairsRoom 0; formula = replicate formulaRoom (pos 0) }
 
 -- the formula's numbers
-unfoldable pub numbersFor : Netlist → ℕ → List ℤ
-numbersFor net target = flat (formulaFor net (atZero net) target)
+unfoldable pub numbersFor : Circuit → ℕ → List ℤ
+numbersFor circuit target = flat (formulaFor circuit target)
 
 -- the counts are those of the list
-unfoldable pub countsFor : Netlist → ℕ → Counts
-countsFor net target =
+unfoldable pub countsFor : Circuit → ℕ → Counts
+countsFor circuit target =
     record {
-      variables = nodeCount net + length (pairsFor net (atZero net) target);
-      pairs = length (pairsFor net (atZero net) target);
-      clauses = length (formulaFor net (atZero net) target);
-      numbers = length (numbersFor net target);
+      variables = nodeCount (circuit .net) + length (pairsFor circuit target);
+      pairs = length (pairsFor circuit target);
+      clauses = length (formulaFor circuit target);
+      numbers = length (numbersFor circuit target);
     }
 
 -- how many pairs a lent table holds: two numbers a pair, and at most 65,536
@@ -55,30 +54,30 @@ abbrev pub tableHolds : ℕ → ℕ
 tableHolds pairsRoom = min (pairsRoom / 2) 65536
 
 -- pairs and formula, and zeros in "whatever part wasn't needed"
-unfoldable pub built : Netlist → ℕ → ℕ → ℕ → Building
-built net target pairsRoom formulaRoom =
+unfoldable pub built : Circuit → ℕ → ℕ → ℕ → Building
+built circuit target pairsRoom formulaRoom =
     record {
-      answer = Formula (countsFor net target);
+      answer = Formula (countsFor circuit target);
       pairs =
-          flatPairs (pairsFor net (atZero net) target)
-          ++ replicate (pairsRoom - length (pairsFor net (atZero net) target) * 2) 0;
-      formula = numbersFor net target ++ replicate (formulaRoom - length (numbersFor net target)) (pos 0);
+          flatPairs (pairsFor circuit target)
+          ++ replicate (pairsRoom - length (pairsFor circuit target) * 2) 0;
+      formula = numbersFor circuit target ++ replicate (formulaRoom - length (numbersFor circuit target)) (pos 0);
     }
 
 -- 10 PAIRS "more pairs than the table holds, or than 65,536", then 9 ROOM for the formula
-unfoldable pub buildingRows : Netlist → ℕ → ℕ → ℕ → List Row
-buildingRows net target pairsRoom formulaRoom =
-    (ltb (tableHolds pairsRoom) (length (pairsFor net (atZero net) target)), Pairs)
-    ∷ roomRow (length (numbersFor net target)) formulaRoom ∷ []
+unfoldable pub buildingRows : Circuit → ℕ → ℕ → ℕ → List Row
+buildingRows circuit target pairsRoom formulaRoom =
+    (ltb (tableHolds pairsRoom) (length (pairsFor circuit target)), Pairs)
+    ∷ roomRow (length (numbersFor circuit target)) formulaRoom ∷ []
 
--- of an accepted netlist
-unfoldable pub buildingOf : Netlist → ℕ → ℕ → ℕ → Building
-buildingOf net target pairsRoom formulaRoom =
-    unlessRefused (checked (buildingRows net target pairsRoom formulaRoom)) (refused pairsRoom formulaRoom)
-    (built net target pairsRoom formulaRoom)
+-- of an accepted circuit
+unfoldable pub buildingOf : Circuit → ℕ → ℕ → ℕ → Building
+buildingOf circuit target pairsRoom formulaRoom =
+    unlessRefused (checked (buildingRows circuit target pairsRoom formulaRoom)) (refused pairsRoom formulaRoom)
+    (built circuit target pairsRoom formulaRoom)
 
 -- of any bytes and any target, with room for so many numbers in the table and the formula
 unfoldable pub building : List ℕ → ℕ → ℕ → ℕ → Building
 building file target pairsRoom formulaRoom =
-    callOver file (λ net. buildingRows net target pairsRoom formulaRoom) (refused pairsRoom formulaRoom)
-    (λ net. built net target pairsRoom formulaRoom)
+    callOver file (λ circuit. buildingRows circuit target pairsRoom formulaRoom) (refused pairsRoom formulaRoom)
+    (λ circuit. built circuit target pairsRoom formulaRoom)

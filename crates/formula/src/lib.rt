@@ -11,7 +11,7 @@ ghost use Prim.Native.Nat.{suc, _+_, _-_, _≤_, _<_, ℕ};
 ghost use lib.Dec.{T};
 ghost use lib.ListN.{length};
 ghost use Rattle.basics.specs.Lists.{concatMap, any};
-ghost use Rattle.netlist.specs.File.{driverAt, netlistAt, pinsFrom};
+ghost use Rattle.netlist.specs.File.{driverAt, netlistAt, pinsFrom, circuitAt};
 ghost use Rattle.netlist.specs.Holds.{Holds, Tables};
 ghost use Rattle.netlist.specs.Netlist.{takes, nodes};
 ghost use Rattle.netlist.specs.declared.Kind.the-variants.{Simple};
@@ -804,7 +804,7 @@ fn write(
         (length (now pairs)) (now pairs) (Count count)
         ⌝ }
     ensures { λ r. ⌜
-        Meets (buildingOf (netlistAt (now (file .entry)) shape) target (length (now (pairs .entry)))
+        Meets (buildingOf (circuitAt (now (file .entry)) shape) target (length (now (pairs .entry)))
         (length (now (formula .entry)))) r (now (pairs .exit)) (now (formula .exit))
         ⌝ }
 {
@@ -842,7 +842,7 @@ pub fn build_from(
 ) -> Built
     requires { ⌜ Holds (now file) shape ⌝ }
     ensures { λ r. ⌜
-        Meets (buildingOf (netlistAt (now (file .entry)) shape) target (length (now (pairs .entry)))
+        Meets (buildingOf (circuitAt (now (file .entry)) shape) target (length (now (pairs .entry)))
         (length (now (formula .entry)))) r (now (pairs .exit)) (now (formula .exit))
         ⌝ }
 {

@@ -10,7 +10,7 @@ use lib.Dec.{T, eqb, eqb→eq, eqb-refl}
 use lib.ListN.{length, getD}
 use Rattle.basics.specs.Lists.{all, numbered}
 use Rattle.basics.proofs.Truth.{and-left, and-right, and-both, holds}
-use Rattle.netlist.specs.Netlist.{Netlist, Cell, Pin, nodes, nodeCount, gateFits, valid}
+use Rattle.netlist.specs.Netlist.{Cell, Pin, nodes, nodeCount, gateFits, valid, Circuit}
 use Rattle.netlist.proofs.Valid.{valid-gates, valid-outputs}
 use Rattle.settle.specs.Settling.{topOf}
 use Rattle.pairs.specs.Pairs.{output, driver, timesAt, pairList, pairsFor, placeOf}
@@ -97,72 +97,72 @@ place-at f t (x ∷ l) d (List·Memᴰ·tail m) = go (eqb (x .0) f && eqb (x .1)
     go true e u = pair-same f t x (holds e)
     go false e u = u
 
--- ---- the pairs of a valid netlist
+-- ---- the pairs of a circuit whose netlist is valid
 
-module _ (net : Netlist) (ok : T (valid net)) (arrivals : List ℕ) (target : ℕ) where
-  pub closed-for : Closed (net .inputs) (nodes net) (topOf net arrivals)
-      (timesAt (net .inputs) (topOf net arrivals) (net .outputs) target (net .gates)) (net .outputs) target
+module _ (circuit : Circuit) (ok : T (valid (circuit .net))) (target : ℕ) where
+  pub closed-for : Closed (circuit .net .inputs) (nodes (circuit .net)) (topOf circuit)
+      (timesAt (circuit .net .inputs) (topOf circuit) (circuit .net .outputs) target (circuit .net .gates)) (circuit .net .outputs) target
   closed-for =
-      closed (net .inputs) (topOf net arrivals) (net .outputs) target (net .gates) (valid-gates net ok)
+      closed (circuit .net .inputs) (topOf circuit) (circuit .net .outputs) target (circuit .net .gates) (valid-gates (circuit .net) ok)
 
   -- each node's times are in the list of the pairs
   pub listed-for : (f t : ℕ) →
-      List·Memᴰ t (timesAt (net .inputs) (topOf net arrivals) (net .outputs) target (net .gates) f) →
-      List·Memᴰ (f, t) (pairsFor net arrivals target)
+      List·Memᴰ t (timesAt (circuit .net .inputs) (topOf circuit) (circuit .net .outputs) target (circuit .net .gates) f) →
+      List·Memᴰ (f, t) (pairsFor circuit target)
   unfolding pairsFor
   listed-for f t m =
-      time-listed (net .inputs) (topOf net arrivals) (net .outputs) target (net .gates) (valid-gates net ok)
-      (valid-outputs net ok) f t m
+      time-listed (circuit .net .inputs) (topOf circuit) (circuit .net .outputs) target (circuit .net .gates) (valid-gates (circuit .net) ok)
+      (valid-outputs (circuit .net) ok) f t m
 
   -- at a place below the length
   pub placed-for : (f t : ℕ) →
-      List·Memᴰ t (timesAt (net .inputs) (topOf net arrivals) (net .outputs) target (net .gates) f) →
-      placeOf f t (pairsFor net arrivals target) < length (pairsFor net arrivals target)
-  placed-for f t m = place-below f t (pairsFor net arrivals target) (listed-for f t m)
+      List·Memᴰ t (timesAt (circuit .net .inputs) (topOf circuit) (circuit .net .outputs) target (circuit .net .gates) f) →
+      placeOf f t (pairsFor circuit target) < length (pairsFor circuit target)
+  placed-for f t m = place-below f t (pairsFor circuit target) (listed-for f t m)
 
   -- that is its own
   pub place-for : (f t : ℕ) →
-      List·Memᴰ t (timesAt (net .inputs) (topOf net arrivals) (net .outputs) target (net .gates) f) →
-      getD (pairsFor net arrivals target) (placeOf f t (pairsFor net arrivals target)) (0, 0) ≡ (f, t)
-  place-for f t m = place-at f t (pairsFor net arrivals target) (0, 0) (listed-for f t m)
+      List·Memᴰ t (timesAt (circuit .net .inputs) (topOf circuit) (circuit .net .outputs) target (circuit .net .gates) f) →
+      getD (pairsFor circuit target) (placeOf f t (pairsFor circuit target)) (0, 0) ≡ (f, t)
+  place-for f t m = place-at f t (pairsFor circuit target) (0, 0) (listed-for f t m)
 
   -- a pair of the list: its node is a gate's, its time is 1 to the node's top
-  pub pair-for : (f t : ℕ) → List·Memᴰ (f, t) (pairsFor net arrivals target) →
-      (net .inputs ≤ f) × (f < nodeCount net) × (0 < t) × (t ≤ topOf net arrivals f)
+  pub pair-for : (f t : ℕ) → List·Memᴰ (f, t) (pairsFor circuit target) →
+      (circuit .net .inputs ≤ f) × (f < nodeCount (circuit .net)) × (0 < t) × (t ≤ topOf circuit f)
   unfolding pairsFor
   pair-for f t m =
       let a =
-      pairs-asked (net .inputs) (topOf net arrivals) (net .outputs) target (net .gates) (valid-gates net ok) (f, t) m
+      pairs-asked (circuit .net .inputs) (topOf circuit) (circuit .net .outputs) target (circuit .net .gates) (valid-gates (circuit .net) ok) (f, t) m
       in
       let w =
-      pair-facts (net .inputs) (topOf net arrivals) (net .outputs) target f t
-      (member-is-pair (net .inputs) (topOf net arrivals) (net .outputs) target (nodes net) f t a)
+      pair-facts (circuit .net .inputs) (topOf circuit) (circuit .net .outputs) target f t
+      (member-is-pair (circuit .net .inputs) (topOf circuit) (circuit .net .outputs) target (nodes (circuit .net)) f t a)
       in (
         w .0,
-        asked-below (net .inputs) (topOf net arrivals) (net .outputs) target (net .gates) (valid-gates net ok)
-            (valid-outputs net ok) f t a,
+        asked-below (circuit .net .inputs) (topOf circuit) (circuit .net .outputs) target (circuit .net .gates) (valid-gates (circuit .net) ok)
+            (valid-outputs (circuit .net) ok) f t a,
         w .1,
         w .2,
       )
 
   -- and back: a pair of the list is one of its node's times
-  pub time-for : (f t : ℕ) → List·Memᴰ (f, t) (pairsFor net arrivals target) →
-      List·Memᴰ t (timesAt (net .inputs) (topOf net arrivals) (net .outputs) target (net .gates) f)
+  pub time-for : (f t : ℕ) → List·Memᴰ (f, t) (pairsFor circuit target) →
+      List·Memᴰ t (timesAt (circuit .net .inputs) (topOf circuit) (circuit .net .outputs) target (circuit .net .gates) f)
   unfolding pairsFor
   time-for f t m =
-      asked-time (net .inputs) (topOf net arrivals) (net .outputs) target (net .gates) (valid-gates net ok) f t
-      (least-set (net .inputs) (topOf net arrivals) (net .outputs) target (net .gates) (valid-gates net ok) f t .1
-      (pairs-asked (net .inputs) (topOf net arrivals) (net .outputs) target (net .gates) (valid-gates net ok) (f, t) m))
+      asked-time (circuit .net .inputs) (topOf circuit) (circuit .net .outputs) target (circuit .net .gates) (valid-gates (circuit .net) ok) f t
+      (least-set (circuit .net .inputs) (topOf circuit) (circuit .net .outputs) target (circuit .net .gates) (valid-gates (circuit .net) ok) f t .1
+      (pairs-asked (circuit .net .inputs) (topOf circuit) (circuit .net .outputs) target (circuit .net .gates) (valid-gates (circuit .net) ok) (f, t) m))
 
   -- an output's pair at the target is in the list
-  pub output-for : (o : ℕ) → List·Memᴰ o (net .outputs) → net .inputs ≤ o → 0 < target →
-      target ≤ topOf net arrivals o → List·Memᴰ (o, target) (pairsFor net arrivals target)
+  pub output-for : (o : ℕ) → List·Memᴰ o (circuit .net .outputs) → circuit .net .inputs ≤ o → 0 < target →
+      target ≤ topOf circuit o → List·Memᴰ (o, target) (pairsFor circuit target)
   output-for o m a b c = listed-for o target (closed-for .outputs-in o m a b c)
 
   -- and, with a pair, the pair of each driver of its gate
-  pub driver-for : (f : ℕ) (g : Cell) → List·Memᴰ (f, g) (nodes net) → (t : ℕ) →
-      List·Memᴰ (f, t) (pairsFor net arrivals target) → (p : Pin) → List·Memᴰ p (g .pins) → net .inputs ≤ p .driver →
-      0 < t - p .delay → t - p .delay ≤ topOf net arrivals (p .driver) →
-      List·Memᴰ (p .driver, t - p .delay) (pairsFor net arrivals target)
+  pub driver-for : (f : ℕ) (g : Cell) → List·Memᴰ (f, g) (nodes (circuit .net)) → (t : ℕ) →
+      List·Memᴰ (f, t) (pairsFor circuit target) → (p : Pin) → List·Memᴰ p (g .pins) → circuit .net .inputs ≤ p .driver →
+      0 < t - p .delay → t - p .delay ≤ topOf circuit (p .driver) →
+      List·Memᴰ (p .driver, t - p .delay) (pairsFor circuit target)
   driver-for f g m t i p j a b c =
       listed-for (p .driver) (t - p .delay) (closed-for .drivers-in f g m t (time-for f t i) p j a b c)

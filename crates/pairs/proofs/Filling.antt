@@ -20,11 +20,11 @@ use native.Mathlib.Decide.{decLe}
 use lib.ListN.{length, getD, take, drop, drop-of-length-le}
 use Rattle.netlist.specs.declared.Shape.{Shape}
 use Rattle.netlist.specs.Netlist.{Netlist}
-use Rattle.netlist.specs.File.{netlistAt}
+use Rattle.netlist.specs.File.{netlistAt, circuitAt}
 use Rattle.netlist.specs.Holds.{Holds}
 use Rattle.netlist.proofs.Entries.{net-inputs}
 use Rattle.netlist.proofs.Valid.{valid-gates, valid-outputs}
-use Rattle.settle.specs.Settling.{topOf, atZero}
+use Rattle.settle.specs.Settling.{topOf}
 use Rattle.settle.proofs.Nodes.{tops-small}
 use Rattle.pairs.specs.Pairs.{flatPairs, pairsFor, pairList}
 use Rattle.pairs.specs.Rising.{Before, Rising}
@@ -51,7 +51,7 @@ pub record Filling (file : List ℕ) (shape : Shape) (target : ℕ) (table₀ ta
   pub room : at + length done ≡ length table₀ / 2
   pub node : shape .inputs ≤ f
   pub nodes : f ≤ shape .inputs + shape .gates
-  pub bound : b ≤ topOf (netlistAt file shape) (atZero (netlistAt file shape)) f + 1
+  pub bound : b ≤ topOf (circuitAt file shape) f + 1
   pub rising : Rising Before done
   pub sound : (x : ℕ × ℕ) → List·Memᴰ x done → AskedAt file shape target (x .0) (x .1)
   pub low : (x : ℕ × ℕ) → List·Memᴰ x done → keyOf (f, b) ≤ keyOf x
@@ -62,7 +62,7 @@ module _ {file : List ℕ} {shape : Shape} (holds : Holds file shape) (target : 
   net = netlistAt file shape
 
   abbrev top : ℕ → ℕ
-  top = topOf net (atZero net)
+  top = topOf (circuitAt file shape)
 
   abbrev A : ℕ → ℕ → Type 0
   A = AskedAt file shape target

@@ -9,7 +9,7 @@ use lib.Dec.{T}
 use Rattle.basics.proofs.Lists.{all-at}
 use Rattle.netlist.specs.declared.Shape.{Shape}
 use Rattle.netlist.specs.Netlist.{Netlist, Cell, Pin, nodes, gateFits}
-use Rattle.netlist.specs.File.{netlistAt, cellAt, pinAt, firstAt, driverAt, delayAt}
+use Rattle.netlist.specs.File.{netlistAt, cellAt, pinAt, firstAt, driverAt, delayAt, circuitAt}
 use Rattle.netlist.specs.Holds.{Holds}
 use Rattle.netlist.proofs.Entries.{
   pin-driver,
@@ -22,7 +22,7 @@ use Rattle.netlist.proofs.Entries.{
   node-only,
 }
 use Rattle.netlist.proofs.Valid.{valid-gates, valid-outputs, fits-below}
-use Rattle.settle.specs.Settling.{topOf, atZero}
+use Rattle.settle.specs.Settling.{topOf}
 use Rattle.settle.proofs.Nodes.{tops-small}
 use Rattle.pairs.specs.Pairs.{isPair, Asked, output, driver}
 use Rattle.pairs.specs.Table.{PinAsks, Asks, byOutput, byGate}
@@ -31,14 +31,14 @@ use Rattle.pairs.proofs.Least.{pair-facts, member-is-pair, asked-below}
 -- the least set of an accepted file's target
 abbrev pub AskedAt : List ℕ → Shape → ℕ → ℕ → ℕ → Type 0
 AskedAt file shape target f t =
-    Asked (netlistAt file shape .inputs) (topOf (netlistAt file shape) (atZero (netlistAt file shape)))
+    Asked (netlistAt file shape .inputs) (topOf (circuitAt file shape))
     (netlistAt file shape .outputs) target (nodes (netlistAt file shape)) f t
 
 -- (f, t) is a pair of an accepted file
 abbrev pub IsPairAt : List ℕ → Shape → ℕ → ℕ → ℕ → Type 0
 IsPairAt file shape target f t =
     T
-    (isPair (netlistAt file shape .inputs) (topOf (netlistAt file shape) (atZero (netlistAt file shape)))
+    (isPair (netlistAt file shape .inputs) (topOf (circuitAt file shape))
     (netlistAt file shape .outputs) target f t)
 
 module _ {file : List ℕ} {shape : Shape} (holds : Holds file shape) (target : ℕ) where
@@ -47,15 +47,15 @@ module _ {file : List ℕ} {shape : Shape} (holds : Holds file shape) (target : 
 
   -- what is known of each that is asked for
   pub facts-of : (f t : ℕ) → AskedAt file shape target f t →
-      (shape .inputs ≤ f) × (f < shape .inputs + shape .gates) × (0 < t) × (t ≤ topOf net (atZero net) f)
+      (shape .inputs ≤ f) × (f < shape .inputs + shape .gates) × (0 < t) × (t ≤ topOf (circuitAt file shape) f)
       × (t ≤ 447552)
   facts-of f t a =
       let w =
-      pair-facts (net .inputs) (topOf net (atZero net)) (net .outputs) target f t
-      (member-is-pair (net .inputs) (topOf net (atZero net)) (net .outputs) target (nodes net) f t a)
+      pair-facts (net .inputs) (topOf (circuitAt file shape)) (net .outputs) target f t
+      (member-is-pair (net .inputs) (topOf (circuitAt file shape)) (net .outputs) target (nodes net) f t a)
       in
       let b =
-      asked-below (net .inputs) (topOf net (atZero net)) (net .outputs) target (net .gates)
+      asked-below (net .inputs) (topOf (circuitAt file shape)) (net .outputs) target (net .gates)
       (valid-gates net (holds .valid)) (valid-outputs net (holds .valid)) f t a
       in (
         omega (arith, w .0, net-inputs file shape),
@@ -85,7 +85,7 @@ module _ {file : List ℕ} {shape : Shape} (holds : Holds file shape) (target : 
       ap (λ (x : Pin). x .delay) (v .3) ∙ pin-delay file shape (v .0)
       in
       let c =
-      pair-facts (net .inputs) (topOf net (atZero net)) (net .outputs) target (p .driver) (s - p .delay) u
+      pair-facts (net .inputs) (topOf (circuitAt file shape)) (net .outputs) target (p .driver) (s - p .delay) u
       in
       let back : s ≡ s - p .delay + delayAt file shape (v .0) = omega (arith, c .1) in
       byGate (w .0) (w .1) (omega arith)

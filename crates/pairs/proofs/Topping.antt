@@ -13,13 +13,13 @@ use lib.Seq.{length-take-le, getD-take, getD-set-same, getD-set-other, ext-getD}
 use Rattle.netlist.specs.declared.Shape.{Shape}
 use Rattle.netlist.specs.declared.Gate.{Gate}
 use Rattle.netlist.specs.Netlist.{Netlist}
-use Rattle.netlist.specs.File.{netlistAt, cellAt, gateAt, pinAt, firstAt, driverAt, delayAt}
+use Rattle.netlist.specs.File.{netlistAt, cellAt, gateAt, pinAt, firstAt, driverAt, delayAt, circuitAt}
 use Rattle.netlist.specs.Holds.{Holds}
 use Rattle.netlist.proofs.Entries.{pin-driver, pin-delay, pins-from, pins-done, net-inputs, node-count, node-has}
 use Rattle.netlist.proofs.GateRead.{gate-fields}
-use Rattle.settle.specs.Settling.{last, readyAt, topOf, topsOf, atZero}
+use Rattle.settle.specs.Settling.{last, readyAt, topOf, topsOf}
 use Rattle.settle.proofs.Argument.{last-cong}
-use Rattle.settle.proofs.Nodes.{laid, runs, input-top, tops-length, tops-small}
+use Rattle.settle.proofs.Nodes.{laid, runs, input-top, tops-length, tops-small, Arrives, zero-arrives}
 use Rattle.pairs.specs.Promise.{Tops}
 
 -- ---- when the last pin of a gate is ready
@@ -73,14 +73,14 @@ readying-ends {file} {shape} {number} {tops} {latest} {k} g own b h =
 pub record Topping (file : List ℕ) (shape : Shape) (tops : List ℕ) (i : ℕ) : Type 0 where
   pub long : shape .inputs + shape .gates ≤ length tops
   pub is : (k : ℕ) → k < shape .inputs + i →
-      getD tops k 0 ≡ topOf (netlistAt file shape) (atZero (netlistAt file shape)) k
+      getD tops k 0 ≡ topOf (circuitAt file shape) k
 
 module _ {file : List ℕ} {shape : Shape} (holds : Holds file shape) where
   abbrev net : Netlist
   net = netlistAt file shape
 
-  zeros : length (atZero net) ≡ net .inputs
-  zeros = length-replicate (net .inputs) 0
+  zeros : Arrives (circuitAt file shape)
+  zeros = zero-arrives net
 
   pub topping-starts : (tops : List ℕ) (n : ℕ) → shape .inputs + shape .gates ≤ n → tops ≡ replicate n 0 →
       Topping file shape tops 0
@@ -93,25 +93,25 @@ module _ {file : List ℕ} {shape : Shape} (holds : Holds file shape) where
             ap (λ (x : List ℕ). getD x k 0) e
             ∙ getD-replicate {A = ℕ} n k 0 0 (omega arith)
             ∙ sym (getD-replicate {A = ℕ} (net .inputs) k 0 0 i)
-            ∙ sym (input-top net (atZero net) zeros k i);
+            ∙ sym (input-top (circuitAt file shape) zeros k i);
       }
 
   -- when gate i's last pin is ready by the tops so far is its top
   topping-value : {tops : List ℕ} {i : ℕ} (r : ℕ) → Topping file shape tops i → i < shape .gates →
       r ≡ last (readyAt (λ node. getD (take (shape .inputs + i) tops) node 0)) (cellAt file shape i .pins) →
-      r ≡ topOf (netlistAt file shape) (atZero (netlistAt file shape)) (shape .inputs + i)
+      r ≡ topOf (circuitAt file shape) (shape .inputs + i)
   topping-value {tops} {i} r b h e =
       let node = shape .inputs + i in
       let cell = cellAt file shape i in
       let m = node-has file shape i h in
       e
-      ∙ last-cong (readyAt (λ node. getD (take (shape .inputs + i) tops) node 0)) (readyAt (topOf net (atZero net)))
+      ∙ last-cong (readyAt (λ node. getD (take (shape .inputs + i) tops) node 0)) (readyAt (topOf (circuitAt file shape)))
       (cell .pins)
       (λ p j.
       let l = laid net (holds .valid) .below node cell m p j in
       ap (λ (n : ℕ). n + p .delay) (getD-take node tops (p .driver) 0 l ∙ b .is (p .driver) l))
       ∙ sym
-      (runs net (holds .valid) (atZero net) zeros (replicate (net .inputs) false) (length-replicate (net .inputs) false)
+      (runs (circuitAt file shape) (holds .valid) zeros (replicate (net .inputs) false) (length-replicate (net .inputs) false)
       .top-fixed node cell m)
 
   -- and is small
@@ -130,12 +130,12 @@ module _ {file : List ℕ} {shape : Shape} (holds : Holds file shape) where
       }
     where
       pick : (k : ℕ) → k < shape .inputs + (i + 1) → Dec (k ≡ shape .inputs + i) →
-          getD (set tops (shape .inputs + i) r) k 0 ≡ topOf net (atZero net) k
+          getD (set tops (shape .inputs + i) r) k 0 ≡ topOf (circuitAt file shape) k
       pick k l (yes q) =
           ap (λ (n : ℕ). getD (set tops (shape .inputs + i) r) n 0) q
           ∙ getD-set-same tops (shape .inputs + i) r 0 (omega (arith, b .long))
           ∙ topping-value r b h e
-          ∙ ap (topOf net (atZero net)) (sym q)
+          ∙ ap (topOf (circuitAt file shape)) (sym q)
       pick k l (no q) = getD-set-other tops (shape .inputs + i) k r 0 q ∙ b .is k (omega arith)
 
   pub topping-ends : {tops : List ℕ} {i : ℕ} → Topping file shape tops i → shape .gates ≤ i → Tops file shape tops
@@ -144,8 +144,8 @@ module _ {file : List ℕ} {shape : Shape} (holds : Holds file shape) where
       let e : length (take n tops) ≡ n = length-take-le n tops (b .long) in
       record {
         is =
-            ext-getD 0 (take n tops) (topsOf net (atZero net))
-            (e ∙ sym (tops-length net (atZero net) zeros ∙ node-count file shape))
+            ext-getD 0 (take n tops) (topsOf (circuitAt file shape))
+            (e ∙ sym (tops-length (circuitAt file shape) zeros ∙ node-count file shape))
             (λ k l.
             let q : k < shape .inputs + shape .gates = omega arith in
             getD-take n tops k 0 q ∙ b .is k (omega arith));
@@ -153,9 +153,9 @@ module _ {file : List ℕ} {shape : Shape} (holds : Holds file shape) where
 
   -- what is read at a node's number is its top, and small
   pub top-read : {tops : List ℕ} (f x : ℕ) → Tops file shape tops → f < shape .inputs + shape .gates →
-      x ≡ getD tops f 0 → (x ≡ topOf (netlistAt file shape) (atZero (netlistAt file shape)) f) × (x ≤ 447552)
+      x ≡ getD tops f 0 → (x ≡ topOf (circuitAt file shape) f) × (x ≤ 447552)
   top-read {tops} f x b h e =
-      let q : x ≡ topOf (netlistAt file shape) (atZero (netlistAt file shape)) f =
+      let q : x ≡ topOf (circuitAt file shape) f =
       e ∙ sym (getD-take (shape .inputs + shape .gates) tops f 0 h) ∙ ap (λ (l : List ℕ). getD l f 0) (b .is)
       in
       (q, omega (arith, q, tops-small net (holds .valid) f))
@@ -163,5 +163,5 @@ module _ {file : List ℕ} {shape : Shape} (holds : Holds file shape) where
   -- a slice that begins with the tops is long enough
   pub tops-long : {tops : List ℕ} → Tops file shape tops → shape .inputs + shape .gates ≤ length tops
   tops-long {tops} b =
-      let e = ap length (b .is) ∙ tops-length net (atZero net) zeros ∙ node-count file shape in
+      let e = ap length (b .is) ∙ tops-length (circuitAt file shape) zeros ∙ node-count file shape in
       omega (arith, length-take (shape .inputs + shape .gates) tops, e)

@@ -8,10 +8,10 @@ use native.Mathlib.Omega.{arith}
 use lib.ListN.{length, take, drop, replicate}
 use lib.Seq.{take-at, drop-append-le, length-take-le, length-front}
 use Rattle.netlist.specs.declared.Shape.{Shape}
-use Rattle.netlist.specs.File.{netlistAt}
+use Rattle.netlist.specs.File.{netlistAt, circuitAt}
 use Rattle.netlist.specs.Holds.{Holds}
 use Rattle.netlist.proofs.Entries.{node-count}
-use Rattle.settle.specs.Settling.{topOf, atZero}
+use Rattle.settle.specs.Settling.{topOf}
 use Rattle.settle.proofs.Nodes.{tops-small}
 use Rattle.pairs.specs.declared.Filled.{Filled}
 use Rattle.pairs.specs.declared.Filled.the-variants.{From, Full}
@@ -119,13 +119,13 @@ lists-for {file} {shape} target table n holds e f =
     record {
       all = e;
       is = f;
-      rising = pairs-rising (net .inputs) (topOf net (atZero net)) (net .outputs) target (net .gates);
+      rising = pairs-rising (net .inputs) (topOf (circuitAt file shape)) (net .outputs) target (net .gates);
       nodes-small =
           λ x m.
-          let w = pair-for net (holds .valid) (atZero net) target (x .0) (x .1) m in
+          let w = pair-for (circuitAt file shape) (holds .valid) target (x .0) (x .1) m in
           omega (arith, w .1, node-count file shape, holds .inputs-few, holds .gates-few);
       times-small =
           λ x m.
-          let w = pair-for net (holds .valid) (atZero net) target (x .0) (x .1) m in
+          let w = pair-for (circuitAt file shape) (holds .valid) target (x .0) (x .1) m in
           omega (arith, w .3, tops-small net (holds .valid) (x .0));
     }

@@ -2,15 +2,16 @@
 -- pairsA.
 use mathlib.Core.Path.{_≡_, refl}
 use mathlib.Core.List.{[], _∷_}
+use Rattle.netlist.specs.Netlist.{atZero}
 use Rattle.netlist.specs.Example.{describedA}
-use Rattle.settle.specs.Settling.{grow, topsOf, atZero}
+use Rattle.settle.specs.Settling.{grow, topsOf}
 use Rattle.pairs.specs.Pairs.{asked, timesAt, pairList, pairsFor, flatPairs, placeOf}
 
 -- the pairs as a list, as the lent table, a pair's place, and none
 pub pairsA :
-    (pairsFor describedA (atZero describedA) 3 ≡ (2, 1) ∷ (3, 2) ∷ (4, 3) ∷ [])
-    × (flatPairs (pairsFor describedA (atZero describedA) 3) ≡ 2 ∷ 1 ∷ 3 ∷ 2 ∷ 4 ∷ 3 ∷ [])
-    × (placeOf 3 2 (pairsFor describedA (atZero describedA) 3) ≡ 1)
-    × (pairsFor describedA (atZero describedA) 6 ≡ [])
+    (pairsFor (atZero describedA) 3 ≡ (2, 1) ∷ (3, 2) ∷ (4, 3) ∷ [])
+    × (flatPairs (pairsFor (atZero describedA) 3) ≡ 2 ∷ 1 ∷ 3 ∷ 2 ∷ 4 ∷ 3 ∷ [])
+    × (placeOf 3 2 (pairsFor (atZero describedA) 3) ≡ 1)
+    × (pairsFor (atZero describedA) 6 ≡ [])
 unfolding describedA grow topsOf asked timesAt pairList pairsFor flatPairs placeOf
 pairsA = (refl, refl, refl, refl)

@@ -6,7 +6,7 @@ use mathlib.Core.List.{List, [], _∷_, map, List·Memᴰ}
 use Prim.Native.Nat.{ℕ, suc, _+_, _-_}
 use lib.Dec.{T, leb, ltb, eqb}
 use Rattle.basics.specs.Lists.{any, keep, concatMap, upFrom, numbered}
-use Rattle.netlist.specs.Netlist.{Netlist, Cell, Pin}
+use Rattle.netlist.specs.Netlist.{Cell, Pin, Circuit}
 use Rattle.settle.specs.Settling.{topOf}
 
 -- I inputs, the nodes' tops, the outputs and the target
@@ -42,9 +42,10 @@ unfoldable pub flatPairs : List (ℕ × ℕ) → List ℕ
 flatPairs [] = []
 flatPairs (x ∷ xs) = x .0 ∷ x .1 ∷ flatPairs xs
 
--- the pairs of a netlist's target, in the order of their variables
-unfoldable pub pairsFor : Netlist → List ℕ → ℕ → List (ℕ × ℕ)
-pairsFor net arrivals target = pairList (net .inputs) (topOf net arrivals) (net .outputs) target (net .gates)
+-- the pairs of a circuit's target, in the order of their variables
+unfoldable pub pairsFor : Circuit → ℕ → List (ℕ × ℕ)
+pairsFor circuit target =
+    pairList (circuit .net .inputs) (topOf circuit) (circuit .net .outputs) target (circuit .net .gates)
 
 -- the place of a pair in a list of pairs
 unfoldable pub placeOf : ℕ → ℕ → List (ℕ × ℕ) → ℕ

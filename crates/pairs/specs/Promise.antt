@@ -4,8 +4,8 @@ use mathlib.Core.List.{List, _++_, List·Memᴰ}
 use Prim.Native.Nat.{ℕ, _+_, _-_, _*_, _/_, _≤_, _<_, min}
 use lib.ListN.{length, getD, take, replicate}
 use Rattle.netlist.specs.declared.Shape.{Shape}
-use Rattle.netlist.specs.File.{netlistAt}
-use Rattle.settle.specs.Settling.{topsOf, atZero}
+use Rattle.netlist.specs.File.{circuitAt}
+use Rattle.settle.specs.Settling.{topsOf}
 use Rattle.pairs.specs.declared.Listed.{Listed}
 use Rattle.pairs.specs.declared.Listed.the-variants.{Count, TooMany}
 use Rattle.pairs.specs.Pairs.{flatPairs, pairsFor}
@@ -14,11 +14,11 @@ use Rattle.pairs.specs.Table.{Precede}
 
 -- a lent slice begins with the tops of all nodes
 pub record Tops (file : List ℕ) (shape : Shape) (tops : List ℕ) : Type 0 where
-  pub is : take (shape .inputs + shape .gates) tops ≡ topsOf (netlistAt file shape) (atZero (netlistAt file shape))
+  pub is : take (shape .inputs + shape .gates) tops ≡ topsOf (circuitAt file shape)
 
 -- the pairs of an accepted file's target
 abbrev pub pairsAt : List ℕ → Shape → ℕ → List (ℕ × ℕ)
-pairsAt file shape target = pairsFor (netlistAt file shape) (atZero (netlistAt file shape)) target
+pairsAt file shape target = pairsFor (circuitAt file shape) target
 
 -- the pairs and then zeros; or, where they are "more pairs than the table holds, or than 65,536", zeros
 abbrev pub Held : List (ℕ × ℕ) → ℕ → List ℕ → Listed → Type 0

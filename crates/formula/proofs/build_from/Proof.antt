@@ -1,7 +1,7 @@
 -- `formula::build_from` meets its contract: too many pairs is a row of the promise; else `write` ends it. Assumes
 -- nothing.
 use lib.ListN.{length}
-use Rattle.netlist.specs.File.{netlistAt}
+use Rattle.netlist.specs.File.{circuitAt}
 use mathlib.Core.Path.{refl}
 use Rattle.formula.proofs.Rows.{held-length, held-again, meets-as, listed-none}
 use borrow.Author.Needs.{needs}
@@ -55,7 +55,7 @@ returns c =
     .before .before .before .widen in
     let args = c .before .before .before .before .before .before .before .before .before .before .before .before .before
     .before .before .before .before .before .before .before .before .args in
-    meets-as (netlistAt (args .file .now) (args .shape)) (length (args .formula .now)) (widen .ensures .0)
+    meets-as (circuitAt (args .file .now) (args .shape)) (length (args .formula .now)) (widen .ensures .0)
     (held-length _ _ _ _ _ (table .ensures) (listed .given .1)) (write .ensures)
 
 enum-told : tie.Need-enum-told
@@ -77,7 +77,7 @@ returns-2 c =
     let widen = c .before .before .before .before .before .before .before .before .before .before .widen in
     let args = c .before .before .before .before .before .before .before .before .before .before .before .before .before
     .before .before .before .args in
-    meets-as (netlistAt (args .file .now) (args .shape)) (length (args .formula .now)) (widen .ensures .0) refl
+    meets-as (circuitAt (args .file .now) (args .shape)) (length (args .formula .now)) (widen .ensures .0) refl
     (listed-none (args .file .now) (args .shape) (widen .result) _ _ _ _ _ (table .ensures) (enum-told .given .1)
     (c .before .zero-i32 .ensures))
 
