@@ -9,8 +9,8 @@ use Rattle.refusal.specs.declared.Checked.the-variants.{Passes, Refused as Fail
 use Rattle.refusal.specs.Rows.{checked, unlessRefused}
 use Rattle.netlist.specs.declared.Opened.{Opened}
 use Rattle.netlist.specs.declared.Opened.the-variants.{Accepted, Refused as Rejected}
-use Rattle.netlist.specs.Netlist.{Netlist, nodeCount}
-use Rattle.netlist.specs.File.{netlistAt}
+use Rattle.netlist.specs.Netlist.{nodeCount, Circuit}
+use Rattle.netlist.specs.File.{circuitAt}
 use Rattle.netlist.specs.Open.{openOf}
 use Rattle.netlist.proofs.Accepted.{holds}
 use Rattle.netlist.proofs.Entries.{node-count}
@@ -19,17 +19,17 @@ use Rattle.formula.proofs.Rows.{accepted, rejected}
 use Rattle.formula.proofs.Answers.{pairs-fit}
 use Rattle.buzzlumen.specs.Answers.{Small}
 
-of-netlist : (net : Netlist) (target pairsRoom formulaRoom : ℕ) → nodeCount net ≤ 512 →
-    Small (buildingOf net target pairsRoom formulaRoom .answer)
+of-circuit : (circuit : Circuit) (target pairsRoom formulaRoom : ℕ) → nodeCount (circuit .net) ≤ 512 →
+    Small (buildingOf circuit target pairsRoom formulaRoom .answer)
 unfolding buildingOf built countsFor
-of-netlist net target pairsRoom formulaRoom few =
-    go (checked (buildingRows net target pairsRoom formulaRoom)) refl
+of-circuit circuit target pairsRoom formulaRoom few =
+    go (checked (buildingRows circuit target pairsRoom formulaRoom)) refl
   where
-    go : (c : Checked) → checked (buildingRows net target pairsRoom formulaRoom) ≡ c →
+    go : (c : Checked) → checked (buildingRows circuit target pairsRoom formulaRoom) ≡ c →
         Small
-        (unlessRefused c (refused pairsRoom formulaRoom) (built net target pairsRoom formulaRoom) .answer)
+        (unlessRefused c (refused pairsRoom formulaRoom) (built circuit target pairsRoom formulaRoom) .answer)
     go (Fails refusal) e = tt
-    go Passes e = let h = pairs-fit net target pairsRoom formulaRoom e in omega arith
+    go Passes e = let h = pairs-fit circuit target pairsRoom formulaRoom e in omega arith
 
 -- every answer of a building call
 pub small : (file : List ℕ) (target pairsRoom formulaRoom : ℕ) →
@@ -42,4 +42,4 @@ small file target pairsRoom formulaRoom = go (openOf file) refl
         let h = holds file shape e in
         let n = node-count file shape in
         rw (accepted file target pairsRoom formulaRoom shape e)
-        (of-netlist (netlistAt file shape) target pairsRoom formulaRoom (omega (arith, h .inputs-few, h .gates-few)))
+        (of-circuit (circuitAt file shape) target pairsRoom formulaRoom (omega (arith, h .inputs-few, h .gates-few)))

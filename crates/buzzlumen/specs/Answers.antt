@@ -9,8 +9,7 @@ use Rattle.settle.specs.declared.Settled.{Settled}
 use Rattle.settle.specs.declared.Settled.the-variants.{At, Refused as Unsettled}
 use Rattle.refusal.specs.declared.Checked.{Checked}
 use Rattle.refusal.specs.declared.Checked.the-variants.{Passes, Refused}
-use Rattle.netlist.specs.File.{netlistOf}
-use Rattle.settle.specs.Settling.{atZero}
+use Rattle.netlist.specs.File.{circuitOf}
 use Rattle.settle.specs.Promise.{Evaluation}
 use Rattle.formula.specs.declared.Built.{Built}
 use Rattle.formula.specs.declared.Built.the-variants.{Formula, Refused as Unbuilt}
@@ -75,4 +74,4 @@ pub record Certifies (file : List ℕ) (delay : ℕ) (vector : List ℕ) (refuta
   pub answer : Checked
   pub judges : Judges file delay vector refutation rooms (leaving answer values times pairs formula propagation)
   pub is : numbers ≡ checkedOf answer
-  pub largest : numbers .number ≡ 0 → Largest (netlistOf file) (atZero (netlistOf file)) delay
+  pub largest : numbers .number ≡ 0 → Largest (circuitOf file) delay

@@ -11,9 +11,9 @@ use lib.Dec.{T, leb, not-T, nleb→lt}
 use lib.IntN.{ℤ}
 use lib.ListN.{length, length-replicate}
 use Rattle.basics.proofs.Truth.{decide}
-use Rattle.netlist.specs.Netlist.{Netlist, valid}
-use Rattle.settle.specs.Settling.{circuitTime, atZero}
-use Rattle.settle.proofs.Nodes.{circuit-late}
+use Rattle.netlist.specs.Netlist.{valid, Circuit}
+use Rattle.settle.specs.Settling.{circuitTime}
+use Rattle.settle.proofs.Nodes.{circuit-late, Arrives}
 use Rattle.clauses.specs.Clauses.{Literal, clausesOf}
 use Rattle.refute.specs.Propagation.{Judged, passes}
 use Rattle.refute.proofs.Sound.{no-solution}
@@ -23,42 +23,42 @@ use Rattle.certificate.specs.Largest.{Largest}
 use Rattle.certificate.proofs.Demand.{demand-at}
 use Rattle.certificate.proofs.Numbers.{numbers-read}
 
-module _ (net : Netlist) (ok : T (valid net)) (arrivals : List ℕ) (as-many : length arrivals ≡ net .inputs) where
+module _ (circuit : Circuit) (ok : T (valid (circuit .net))) (as-many : Arrives circuit) where
   -- a vector that settles at d, and a refutation of the formula for d+1 that passes
-  pub accepted : (delay : ℕ) (vector : List Bool) → length vector ≡ net .inputs →
-      circuitTime net arrivals vector ≡ delay → (refutation : List (List Literal)) →
-      Judged (formulaFor net arrivals (suc delay)) refutation passes → List·Memᴰ [] refutation →
-      Largest net arrivals delay
+  pub accepted : (delay : ℕ) (vector : List Bool) → length vector ≡ circuit .net .inputs →
+      circuitTime circuit vector ≡ delay → (refutation : List (List Literal)) →
+      Judged (formulaFor circuit (suc delay)) refutation passes → List·Memᴰ [] refutation →
+      Largest circuit delay
   accepted delay vector as-long settles refutation judged empty =
       record {
-        bound = λ other e. pick other e (decide (leb (suc delay) (circuitTime net arrivals other)));
+        bound = λ other e. pick other e (decide (leb (suc delay) (circuitTime circuit other)));
         reached = (vector, as-long, settles);
       }
     where
-      pick : (other : List Bool) → length other ≡ net .inputs →
-          T (leb (suc delay) (circuitTime net arrivals other))
-          ⊎ (T (leb (suc delay) (circuitTime net arrivals other)) → ⊥) → circuitTime net arrivals other ≤ delay
+      pick : (other : List Bool) → length other ≡ circuit .net .inputs →
+          T (leb (suc delay) (circuitTime circuit other))
+          ⊎ (T (leb (suc delay) (circuitTime circuit other)) → ⊥) → circuitTime circuit other ≤ delay
       pick other e (inl late) =
           let s =
-          demand-at net ok arrivals as-many other e (suc delay) .1
-          (subst T (circuit-late net arrivals other delay) late)
+          demand-at circuit ok as-many other e (suc delay) .1
+          (subst T (circuit-late circuit other delay) late)
           in
           absurd
-          (no-solution (formulaFor net arrivals (suc delay)) refutation judged empty (s .assignment) (s .solves))
+          (no-solution (formulaFor circuit (suc delay)) refutation judged empty (s .assignment) (s .solves))
       pick other e (inr late) =
           let h =
-          nleb→lt (suc delay) (circuitTime net arrivals other)
-          (not-T (leb (suc delay) (circuitTime net arrivals other)) late)
+          nleb→lt (suc delay) (circuitTime circuit other)
+          (not-T (leb (suc delay) (circuitTime circuit other)) late)
           in
           omega arith
 
--- the same over the very lists of numbers, with all arrivals zero
-pub numbers-accepted : (net : Netlist) → T (valid net) → (delay : ℕ) (vector : List Bool) →
-    length vector ≡ net .inputs → circuitTime net (atZero net) vector ≡ delay → (refutation : List ℤ) →
-    Judged (clausesOf (numbersFor net (suc delay))) (clausesOf refutation) passes →
-    List·Memᴰ [] (clausesOf refutation) → Largest net (atZero net) delay
-numbers-accepted net ok delay vector as-long settles refutation judged empty =
-    accepted net ok (atZero net) (length-replicate (net .inputs) 0) delay vector as-long settles (clausesOf refutation)
+-- the same over the very lists of numbers
+pub numbers-accepted : (circuit : Circuit) → T (valid (circuit .net)) → Arrives circuit → (delay : ℕ) (vector : List Bool) →
+    length vector ≡ circuit .net .inputs → circuitTime circuit vector ≡ delay → (refutation : List ℤ) →
+    Judged (clausesOf (numbersFor circuit (suc delay))) (clausesOf refutation) passes →
+    List·Memᴰ [] (clausesOf refutation) → Largest circuit delay
+numbers-accepted circuit ok as-many delay vector as-long settles refutation judged empty =
+    accepted circuit ok as-many delay vector as-long settles (clausesOf refutation)
     (subst (λ (formula : List (List Literal)). Judged formula (clausesOf refutation) passes)
-    (numbers-read net ok (suc delay)) judged)
+    (numbers-read circuit ok (suc delay)) judged)
     empty

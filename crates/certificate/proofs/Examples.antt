@@ -7,9 +7,9 @@ use Prim.Native.Nat.{ℕ, suc}
 use native.Mathlib.Omega.{arith}
 use lib.IntN.{ℤ}
 use Rattle.basics.proofs.Lists.{map-each}
-use Rattle.netlist.specs.Netlist.{Netlist}
+use Rattle.netlist.specs.Netlist.{Circuit}
 use Rattle.netlist.specs.Kinds.{fewest, most, kindOf}
-use Rattle.netlist.specs.File.{tableBytes, shapeOf, gateAt, pinAt, cellOf, cellAt, netlistAt, netlistOf, pinsFrom}
+use Rattle.netlist.specs.File.{tableBytes, shapeOf, gateAt, pinAt, cellOf, cellAt, netlistAt, pinsFrom, circuitOf}
 use Rattle.netlist.specs.Open.{
   netlistRows,
   rowsOver,
@@ -27,7 +27,7 @@ use Rattle.netlist.specs.Open.{
   outputPlace,
 }
 use Rattle.netlist.specs.Example.{circuitA}
-use Rattle.settle.specs.Settling.{gateValue, settles, grow, valuesOf, timesOf, topsOf, atZero, circuitTime}
+use Rattle.settle.specs.Settling.{gateValue, settles, grow, valuesOf, timesOf, topsOf, circuitTime}
 use Rattle.settle.specs.Promise.{byteWrong, givenRows}
 use Rattle.clauses.specs.Clauses.{flat, clausesFrom, clausesOf}
 use Rattle.refusal.specs.declared.Checked.{Checked}
@@ -57,13 +57,13 @@ abbrev pub checkedTo : List ℕ → ℕ → List ℕ → List ℤ → Rooms → 
 checkedTo file delay vector refutation rooms =
     unlessRefused (checked (rowsOver file (certificateRows delay vector refutation rooms))) Refused
     (answerOf
-    (verdict (suc (countsFor (netlistOf file) (suc delay) .variables))
-    (clausesOf (numbersFor (netlistOf file) (suc delay))) (clausesOf refutation)))
+    (verdict (suc (countsFor (circuitOf file) (suc delay) .variables))
+    (clausesOf (numbersFor (circuitOf file) (suc delay))) (clausesOf refutation)))
 
 -- and the judgement
 abbrev pub judgementTo : List ℕ → ℕ → List ℕ → List ℤ → Rooms → Judgement
 judgementTo file delay vector refutation rooms =
-    judgementOf (netlistOf file) delay vector rooms (checkedTo file delay vector refutation rooms)
+    judgementOf (circuitOf file) delay vector rooms (checkedTo file delay vector refutation rooms)
 
 -- a judgement meets itself
 itself : {result : Judgement} → Meets result result
@@ -84,46 +84,46 @@ unfolding countsFor
 judgement-exists file delay vector refutation rooms =
     go (checked (rowsOver file (certificateRows delay vector refutation rooms))) refl
   where
-    net : Netlist
-    net = netlistOf file
+    circuit : Circuit
+    circuit = circuitOf file
 
     go : (rows : Checked) → checked (rowsOver file (certificateRows delay vector refutation rooms)) ≡ rows →
         Judges file delay vector refutation rooms
-        (judgementOf net delay vector rooms
+        (judgementOf circuit delay vector rooms
         (unlessRefused rows Refused
         (answerOf
-        (verdict (suc (countsFor net (suc delay) .variables)) (clausesOf (numbersFor net (suc delay)))
+        (verdict (suc (countsFor circuit (suc delay) .variables)) (clausesOf (numbersFor circuit (suc delay)))
         (clausesOf refutation)))))
     go (Refused refusal) e = record { answer = Refused refusal; answers = malformed e; meets = itself }
     go Passes e =
-        let own = certificateRows delay vector refutation rooms net in
+        let own = certificateRows delay vector refutation rooms circuit in
         let p =
-        certificate-passes net delay vector refutation rooms (rest-passes (netlistRows file) own e)
+        certificate-passes circuit delay vector refutation rooms (rest-passes (netlistRows file) own e)
         in
-        let few = pairs-fit net (suc delay) (rooms .pairs) (rooms .formula) (p .building) in
+        let few = pairs-fit circuit (suc delay) (rooms .pairs) (rooms .formula) (p .building) in
         let well =
-        numbers-well-formed net (passed-valid file (first-passes (netlistRows file) own e)) (suc delay) (omega arith)
+        numbers-well-formed circuit (passed-valid file (first-passes (netlistRows file) own e)) (suc delay) (omega arith)
         in
         record {
           answer =
               answerOf
-              (verdict (suc (countsFor net (suc delay) .variables)) (clausesOf (numbersFor net (suc delay)))
+              (verdict (suc (countsFor circuit (suc delay) .variables)) (clausesOf (numbersFor circuit (suc delay)))
               (clausesOf refutation));
           answers =
-              judged-answer (suc (countsFor net (suc delay) .variables)) (numbersFor net (suc delay)) refutation e
+              judged-answer (suc (countsFor circuit (suc delay) .variables)) (numbersFor circuit (suc delay)) refutation e
               (formula-within well)
-              (rows-pass (countsFor net (suc delay) .variables) refutation (rooms .propagation) (p .testing) .within)
+              (rows-pass (countsFor circuit (suc delay) .variables) refutation (rooms .propagation) (p .testing) .within)
               refl;
           meets = itself;
         }
 
 -- ---- the rows of the table
 
-judgement-answer : (net : Netlist) (delay : ℕ) (vector : List ℕ) (rooms : Rooms) (answer : Checked) →
-    judgementOf net delay vector rooms answer .answer ≡ answer
+judgement-answer : (circuit : Circuit) (delay : ℕ) (vector : List ℕ) (rooms : Rooms) (answer : Checked) →
+    judgementOf circuit delay vector rooms answer .answer ≡ answer
 unfolding accepted
-judgement-answer net delay vector rooms Passes = refl
-judgement-answer net delay vector rooms (Refused refusal) = refl
+judgement-answer circuit delay vector rooms Passes = refl
+judgement-answer circuit delay vector rooms (Refused refusal) = refl
 
 abbrev answerTo : Case → Checked
 answerTo c = checkedTo (c .file) (c .delay) (c .vector) (c .refutation) (c .rooms)
@@ -145,13 +145,13 @@ pub cases-hold : (c : Case) → List·Memᴰ c cases →
 cases-hold c i = (
   judgementTo (c .file) (c .delay) (c .vector) (c .refutation) (c .rooms),
   judgement-exists (c .file) (c .delay) (c .vector) (c .refutation) (c .rooms),
-  judgement-answer (netlistOf (c .file)) (c .delay) (c .vector) (c .rooms)
+  judgement-answer (circuitOf (c .file)) (c .delay) (c .vector) (c .rooms)
       (checkedTo (c .file) (c .delay) (c .vector) (c .refutation) (c .rooms))
       ∙ map-each answerTo (λ (d : Case). d .answer) cases computed c i,
 )
 
 -- "true delay 2" of circuit A, by its certificate
-pub largest-of-A : Largest (netlistOf circuitA) (atZero (netlistOf circuitA)) 2
+pub largest-of-A : Largest (circuitOf circuitA) 2
 unfolding cases
 largest-of-A =
     let c = cases-hold _ (List·Memᴰ·head refl) in judges-largest (c .1) (c .2)

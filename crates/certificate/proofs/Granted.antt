@@ -8,18 +8,18 @@ use native.Mathlib.Omega.{arith}
 use lib.Dec.{T, eqb}
 use lib.IntN.{ℤ}
 use lib.ListN.{length-map}
+use Rattle.settle.proofs.Nodes.{Arrives, zero-arrives}
 use Rattle.refusal.specs.declared.Checked.{Checked}
 use Rattle.refusal.specs.declared.Checked.the-variants.{Passes, Refused}
 use Rattle.refusal.specs.Rows.{Row, checked}
 use Rattle.refusal.proofs.Rows.{first-passes, rest-passes}
 use Rattle.netlist.specs.declared.Shape.{Shape}
 use Rattle.netlist.specs.declared.Opened.the-variants.{Accepted}
-use Rattle.netlist.specs.Netlist.{Netlist, valid}
-use Rattle.netlist.specs.File.{netlistAt, netlistOf, shapeOf}
+use Rattle.netlist.specs.Netlist.{valid, Circuit}
+use Rattle.netlist.specs.File.{netlistOf, shapeOf, circuitOf}
 use Rattle.netlist.specs.Open.{netlistRows, openOf, rowsOver}
 use Rattle.netlist.proofs.Accepted.{holds}
-use Rattle.netlist.proofs.Calls.{accepted-net, passed-opened}
-use Rattle.settle.specs.Settling.{atZero}
+use Rattle.netlist.proofs.Calls.{accepted-circuit, passed-opened}
 use Rattle.settle.specs.Promise.{bits}
 use Rattle.clauses.specs.Clauses.{Literal, clausesOf}
 use Rattle.refute.specs.Propagation.{Judged, passes}
@@ -39,46 +39,47 @@ passes-both (accepted e verdict) p = (e, verdict)
 passes-both (step e verdict) p = let w : _≡_ {A = ℕ} 0 1 = cc in absurd (omega arith)
 
 -- a judgement that passes is of a pass
-answer-passes : (net : Netlist) (delay : ℕ) (vector : List ℕ) (rooms : Rooms) (answer : Checked) →
-    judgementOf net delay vector rooms answer .answer ≡ Passes → answer ≡ Passes
-answer-passes net delay vector rooms Passes e = refl
-answer-passes net delay vector rooms (Refused refusal) e = let w : _≡_ {A = ℕ} 0 1 = cc in absurd (omega arith)
+answer-passes : (circuit : Circuit) (delay : ℕ) (vector : List ℕ) (rooms : Rooms) (answer : Checked) →
+    judgementOf circuit delay vector rooms answer .answer ≡ Passes → answer ≡ Passes
+answer-passes circuit delay vector rooms Passes e = refl
+answer-passes circuit delay vector rooms (Refused refusal) e = let w : _≡_ {A = ℕ} 0 1 = cc in absurd (omega arith)
 
 -- where the answer is a pass, the rows passed, and so did the refutation
 pub judged-passes : {file : List ℕ} {delay : ℕ} {vector : List ℕ} {refutation : List ℤ} {rooms : Rooms}
     {result : Judgement} → Judges file delay vector refutation rooms result → result .answer ≡ Passes →
     (checked (rowsOver file (certificateRows delay vector refutation rooms)) ≡ Passes)
-    × Judged (clausesOf (numbersFor (netlistOf file) (suc delay))) (clausesOf refutation) passes
+    × Judged (clausesOf (numbersFor (circuitOf file) (suc delay))) (clausesOf refutation) passes
 judged-passes {file} {delay} {vector} {refutation} {rooms} d e =
     passes-both (d .answers)
-    (answer-passes (netlistOf file) delay vector rooms (d .answer)
+    (answer-passes (circuitOf file) delay vector rooms (d .answer)
     (sym (d .meets .answer-is) ∙ e))
 
 -- of a valid netlist: the rows and the refutation passed, so the delay is the largest settling time
-pub certificate-largest : (net : Netlist) → T (valid net) → (delay : ℕ) (vector : List ℕ) (refutation : List ℤ)
-    (rooms : Rooms) → checked (certificateRows delay vector refutation rooms net) ≡ Passes →
-    Judged (clausesOf (numbersFor net (suc delay))) (clausesOf refutation) passes → Largest net (atZero net) delay
-certificate-largest net ok delay vector refutation rooms e verdict =
-    let p = certificate-passes net delay vector refutation rooms e in
-    numbers-accepted net ok delay (bits vector) (length-map vector (λ byte. eqb byte 1) ∙ p .long) (p .settles)
+pub certificate-largest : (circuit : Circuit) → T (valid (circuit .net)) → Arrives circuit → (delay : ℕ) (vector : List ℕ) (refutation : List ℤ)
+    (rooms : Rooms) → checked (certificateRows delay vector refutation rooms circuit) ≡ Passes →
+    Judged (clausesOf (numbersFor circuit (suc delay))) (clausesOf refutation) passes → Largest circuit delay
+certificate-largest circuit ok as-many delay vector refutation rooms e verdict =
+    let p = certificate-passes circuit delay vector refutation rooms e in
+    numbers-accepted circuit ok as-many delay (bits vector) (length-map vector (λ byte. eqb byte 1) ∙ p .long) (p .settles)
     refutation verdict
-    (refutation-passes (countsFor net (suc delay) .variables) refutation (rooms .propagation) (p .testing))
+    (refutation-passes (countsFor circuit (suc delay) .variables) refutation (rooms .propagation) (p .testing))
 
 -- an accepted file's netlist is valid
-pub opened-valid : (file : List ℕ) (shape : Shape) → openOf file ≡ Accepted shape → T (valid (netlistOf file))
+pub opened-valid : (file : List ℕ) (shape : Shape) → openOf file ≡ Accepted shape → T (valid (circuitOf file .net))
 opened-valid file shape e =
-    subst (λ (net : Netlist). T (valid net)) (sym (accepted-net file e)) (holds file shape e .valid)
+    subst (λ (circuit : Circuit). T (valid (circuit .net))) (sym (accepted-circuit file e)) (holds file shape e .valid)
 
 -- and so is that of a file that passes the rows 1 to 7
-pub passed-valid : (file : List ℕ) → checked (netlistRows file) ≡ Passes → T (valid (netlistOf file))
+pub passed-valid : (file : List ℕ) → checked (netlistRows file) ≡ Passes → T (valid (circuitOf file .net))
 passed-valid file e = opened-valid file (shapeOf file) (passed-opened file e)
 
 -- of any bytes: a pass means the largest settling time
 pub judges-largest : {file : List ℕ} {delay : ℕ} {vector : List ℕ} {refutation : List ℤ} {rooms : Rooms}
     {result : Judgement} → Judges file delay vector refutation rooms result → result .answer ≡ Passes →
-    Largest (netlistOf file) (atZero (netlistOf file)) delay
+    Largest (circuitOf file) delay
 judges-largest {file} {delay} {vector} {refutation} {rooms} d e =
-    let rows = certificateRows delay vector refutation rooms (netlistOf file) in
+    let rows = certificateRows delay vector refutation rooms (circuitOf file) in
     let both = judged-passes d e in
-    certificate-largest (netlistOf file) (passed-valid file (first-passes (netlistRows file) rows (both .0))) delay
+    certificate-largest (circuitOf file) (passed-valid file (first-passes (netlistRows file) rows (both .0)))
+    (zero-arrives (netlistOf file)) delay
     vector refutation rooms (rest-passes (netlistRows file) rows (both .0)) (both .1)

@@ -9,13 +9,13 @@ use native.Mathlib.Omega.{arith}
 use lib.Dec.{T}
 use lib.IntN.{ℤ}
 use lib.ListN.{length, take, length-replicate}
+use Rattle.settle.proofs.Nodes.{Arrives, zero-arrives}
 use Rattle.netlist.specs.declared.Opened.{Opened}
 use Rattle.netlist.specs.declared.Opened.the-variants.{Accepted as Taken, Refused as Untaken}
-use Rattle.netlist.specs.Netlist.{Netlist, valid}
-use Rattle.netlist.specs.File.{netlistOf}
+use Rattle.netlist.specs.Netlist.{valid, Circuit}
+use Rattle.netlist.specs.File.{netlistOf, circuitOf}
 use Rattle.netlist.specs.Open.{openOf}
-use Rattle.netlist.proofs.Calls.{accepted-net}
-use Rattle.settle.specs.Settling.{atZero}
+use Rattle.netlist.proofs.Calls.{accepted-circuit}
 use Rattle.clauses.specs.Clauses.{Literal, clausesOf}
 use Rattle.formula.specs.declared.Counts.{Counts}
 use Rattle.formula.specs.declared.Built.the-variants.{Formula, Refused as Unbuilt}
@@ -27,26 +27,26 @@ use Rattle.certificate.proofs.Numbers.{numbers-read}
 use Rattle.certificate.proofs.Granted.{opened-valid}
 use Rattle.certificate.proofs.Steps.{formed}
 
--- of the formula's numbers, with all arrivals zero
-pub demand-of-numbers : (net : Netlist) → T (valid net) → (target : ℕ) (vector : List Bool) →
-    length vector ≡ net .inputs →
-    Completes net vector (clausesOf (numbersFor net target)) ↔ T (someLate net (atZero net) vector target)
-demand-of-numbers net ok target vector as-long =
+-- of the formula's numbers
+pub demand-of-numbers : (circuit : Circuit) → T (valid (circuit .net)) → Arrives circuit → (target : ℕ) (vector : List Bool) →
+    length vector ≡ circuit .net .inputs →
+    Completes (circuit .net) vector (clausesOf (numbersFor circuit target)) ↔ T (someLate circuit vector target)
+demand-of-numbers circuit ok as-many target vector as-long =
     subst
-    (λ (clauses : List (List Literal)). Completes net vector clauses ↔ T (someLate net (atZero net) vector target))
-    (sym (numbers-read net ok target))
-    (demand-at net ok (atZero net) (length-replicate (net .inputs) 0) vector as-long target)
+    (λ (clauses : List (List Literal)). Completes (circuit .net) vector clauses ↔ T (someLate circuit vector target))
+    (sym (numbers-read circuit ok target))
+    (demand-at circuit ok as-many vector as-long target)
 
 -- a building that answers with counts is of an accepted file
 built-opened : (file : List ℕ) (target pairsRoom formulaRoom : ℕ) (counts : Counts) →
     building file target pairsRoom formulaRoom .answer ≡ Formula counts →
-    T (valid (netlistOf file))
-    × (building file target pairsRoom formulaRoom ≡ buildingOf (netlistOf file) target pairsRoom formulaRoom)
+    T (valid (circuitOf file .net))
+    × (building file target pairsRoom formulaRoom ≡ buildingOf (circuitOf file) target pairsRoom formulaRoom)
 built-opened file target pairsRoom formulaRoom counts f = go (openOf file) refl
   where
     go : (opened : Opened) → openOf file ≡ opened →
-        T (valid (netlistOf file))
-        × (building file target pairsRoom formulaRoom ≡ buildingOf (netlistOf file) target pairsRoom formulaRoom)
+        T (valid (circuitOf file .net))
+        × (building file target pairsRoom formulaRoom ≡ buildingOf (circuitOf file) target pairsRoom formulaRoom)
     go (Untaken refusal) e =
         let z : Unbuilt refusal ≡ Formula counts =
         sym (ap (λ (b : Building). b .answer) (rejected file target pairsRoom formulaRoom refusal e)) ∙ f
@@ -55,16 +55,16 @@ built-opened file target pairsRoom formulaRoom counts f = go (openOf file) refl
     go (Taken shape) e = (
       opened-valid file shape e,
       accepted file target pairsRoom formulaRoom shape e
-          ∙ ap (λ (net : Netlist). buildingOf net target pairsRoom formulaRoom) (sym (accepted-net file e)),
+          ∙ ap (λ (circuit : Circuit). buildingOf circuit target pairsRoom formulaRoom) (sym (accepted-circuit file e)),
     )
 
 -- of what `build` answers and leaves, for any bytes
 pub demand-of-build : (file : List ℕ) (target pairsRoom formulaRoom : ℕ) (counts : Counts) →
     building file target pairsRoom formulaRoom .answer ≡ Formula counts →
-    (vector : List Bool) → length vector ≡ netlistOf file .inputs →
-    Completes (netlistOf file) vector
+    (vector : List Bool) → length vector ≡ circuitOf file .net .inputs →
+    Completes (circuitOf file .net) vector
     (clausesOf (take (counts .numbers) (building file target pairsRoom formulaRoom .formula)))
-    ↔ T (someLate (netlistOf file) (atZero (netlistOf file)) vector target)
+    ↔ T (someLate (circuitOf file) vector target)
 demand-of-build file target pairsRoom formulaRoom counts e vector as-long =
     let opened = built-opened file target pairsRoom formulaRoom counts e in
     let front =
@@ -73,6 +73,6 @@ demand-of-build file target pairsRoom formulaRoom counts e vector as-long =
     in
     subst
     (λ (numbers : List ℤ).
-    Completes (netlistOf file) vector (clausesOf numbers)
-    ↔ T (someLate (netlistOf file) (atZero (netlistOf file)) vector target))
-    (sym (front .numbers-are)) (demand-of-numbers (netlistOf file) (opened .0) target vector as-long)
+    Completes (circuitOf file .net) vector (clausesOf numbers)
+    ↔ T (someLate (circuitOf file) vector target))
+    (sym (front .numbers-are)) (demand-of-numbers (circuitOf file) (opened .0) (zero-arrives (netlistOf file)) target vector as-long)

@@ -12,9 +12,8 @@ use lib.Seq.{getD-append-add}
 use Rattle.basics.specs.Lists.{all}
 use Rattle.basics.proofs.Truth.{and-both, and-left, and-right}
 use Rattle.basics.proofs.Lists.{all-join, all-mono}
-use Rattle.netlist.specs.Netlist.{Netlist, valid}
+use Rattle.netlist.specs.Netlist.{valid, Circuit}
 use Rattle.netlist.proofs.Valid.{valid-inputs-few, valid-gates-few}
-use Rattle.settle.specs.Settling.{atZero}
 use Rattle.clauses.specs.Clauses.{Literal, numberOf, flat, clausesOf}
 use Rattle.clauses.proofs.Flat.{hasVariable, flat-reads}
 use Rattle.refute.specs.Rows.{magnitude, ended, WellFormed}
@@ -85,44 +84,44 @@ flat-ended (c ∷ cs) =
 
 -- ---- of a valid netlist's formula
 
-module _ (net : Netlist) (ok : T (valid net)) (arrivals : List ℕ) (target : ℕ) where
+module _ (circuit : Circuit) (ok : T (valid (circuit .net))) (target : ℕ) where
   each-literal : (test : Literal → Bool) →
-      ((l : Literal) → T (isVariable (variablesFor net arrivals target) (l .1)) → T (test l)) →
-      T (all (all test) (formulaFor net arrivals target))
+      ((l : Literal) → T (isVariable (variablesFor circuit target) (l .1)) → T (test l)) →
+      T (all (all test) (formulaFor circuit target))
   each-literal test h =
-      all-mono (all (literalAllowed (isVariable (variablesFor net arrivals target)))) (all test)
-      (formulaFor net arrivals target)
-      (λ c m. all-mono (literalAllowed (isVariable (variablesFor net arrivals target))) test c (λ l i. h l))
-      (formula-variables net ok arrivals target)
+      all-mono (all (literalAllowed (isVariable (variablesFor circuit target)))) (all test)
+      (formulaFor circuit target)
+      (λ c m. all-mono (literalAllowed (isVariable (variablesFor circuit target))) test c (λ l i. h l))
+      (formula-variables circuit ok target)
 
   -- the flat list reads back
-  pub formula-reads : clausesOf (flat (formulaFor net arrivals target)) ≡ formulaFor net arrivals target
+  pub formula-reads : clausesOf (flat (formulaFor circuit target)) ≡ formulaFor circuit target
   formula-reads =
-      flat-reads (formulaFor net arrivals target)
-      (each-literal hasVariable (λ l. and-left (ltb 0 (l .1)) (leb (l .1) (variablesFor net arrivals target))))
+      flat-reads (formulaFor circuit target)
+      (each-literal hasVariable (λ l. and-left (ltb 0 (l .1)) (leb (l .1) (variablesFor circuit target))))
 
   -- no number is beyond V, and the list is empty or ends in 0: "the refutation check's row 11 has nothing to say"
-  pub formula-well-formed : length (pairsFor net arrivals target) ≤ 65536 →
-      WellFormed (variablesFor net arrivals target) (flat (formulaFor net arrivals target))
+  pub formula-well-formed : length (pairsFor circuit target) ≤ 65536 →
+      WellFormed (variablesFor circuit target) (flat (formulaFor circuit target))
   formula-well-formed few =
       record {
-        few = omega (arith, valid-inputs-few net ok, valid-gates-few net ok);
+        few = omega (arith, valid-inputs-few (circuit .net) ok, valid-gates-few (circuit .net) ok);
         within =
-            flat-within (variablesFor net arrivals target) (formulaFor net arrivals target)
-            (each-literal (small (variablesFor net arrivals target))
-            (λ l. and-right (ltb 0 (l .1)) (leb (l .1) (variablesFor net arrivals target))));
-        last = flat-ended (formulaFor net arrivals target);
+            flat-within (variablesFor circuit target) (formulaFor circuit target)
+            (each-literal (small (variablesFor circuit target))
+            (λ l. and-right (ltb 0 (l .1)) (leb (l .1) (variablesFor circuit target))));
+        last = flat-ended (formulaFor circuit target);
       }
 
 -- the very list that the code writes: its clauses are the formula's
-pub numbers-read : (net : Netlist) → T (valid net) → (target : ℕ) →
-    clausesOf (numbersFor net target) ≡ formulaFor net (atZero net) target
+pub numbers-read : (circuit : Circuit) → T (valid (circuit .net)) → (target : ℕ) →
+    clausesOf (numbersFor circuit target) ≡ formulaFor circuit target
 unfolding numbersFor
-numbers-read net ok target = formula-reads net ok (atZero net) target
+numbers-read circuit ok target = formula-reads circuit ok target
 
 -- and it is well formed, where the pairs are at most 65,536
-pub numbers-well-formed : (net : Netlist) → T (valid net) → (target : ℕ) →
-    length (pairsFor net (atZero net) target) ≤ 65536 →
-    WellFormed (variablesFor net (atZero net) target) (numbersFor net target)
+pub numbers-well-formed : (circuit : Circuit) → T (valid (circuit .net)) → (target : ℕ) →
+    length (pairsFor circuit target) ≤ 65536 →
+    WellFormed (variablesFor circuit target) (numbersFor circuit target)
 unfolding numbersFor
-numbers-well-formed net ok target few = formula-well-formed net ok (atZero net) target few
+numbers-well-formed circuit ok target few = formula-well-formed circuit ok target few

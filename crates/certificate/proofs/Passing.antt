@@ -14,9 +14,9 @@ use Rattle.refusal.specs.declared.Refusal.the-variants.{Witness, Last}
 use Rattle.refusal.specs.declared.Checked.the-variants.{Passes}
 use Rattle.refusal.specs.Rows.{Row, checked, roomRow}
 use Rattle.refusal.proofs.Rows.{passed-by, first-passes, rest-passes}
-use Rattle.netlist.specs.Netlist.{Netlist}
+use Rattle.netlist.specs.Netlist.{Circuit}
 use Rattle.netlist.proofs.TableOrder.{not-back}
-use Rattle.settle.specs.Settling.{atZero, circuitTime}
+use Rattle.settle.specs.Settling.{circuitTime}
 use Rattle.settle.specs.Promise.{bits, evaluationRows}
 use Rattle.settle.proofs.Checks.{vector-passes}
 use Rattle.clauses.specs.Clauses.{Literal, clausesOf}
@@ -25,27 +25,27 @@ use Rattle.formula.specs.Promise.{countsFor, buildingRows}
 use Rattle.certificate.specs.Promise.{Rooms, witnessRow, refutingRows, certificateRows}
 
 -- what the rows of a certificate call say where they pass
-pub record Passing (net : Netlist) (delay : ℕ) (vector : List ℕ) (refutation : List ℤ) (rooms : Rooms) : Type 0 where
-  pub long : length vector ≡ net .inputs
-  pub settles : circuitTime net (atZero net) (bits vector) ≡ delay
-  pub building : checked (buildingRows net (suc delay) (rooms .pairs) (rooms .formula)) ≡ Passes
+pub record Passing (circuit : Circuit) (delay : ℕ) (vector : List ℕ) (refutation : List ℤ) (rooms : Rooms) : Type 0 where
+  pub long : length vector ≡ circuit .net .inputs
+  pub settles : circuitTime circuit (bits vector) ≡ delay
+  pub building : checked (buildingRows circuit (suc delay) (rooms .pairs) (rooms .formula)) ≡ Passes
   pub testing :
-      checked (refutationRows (countsFor net (suc delay) .variables) refutation (rooms .propagation)) ≡ Passes
+      checked (refutationRows (countsFor circuit (suc delay) .variables) refutation (rooms .propagation)) ≡ Passes
 
-pub certificate-passes : (net : Netlist) (delay : ℕ) (vector : List ℕ) (refutation : List ℤ) (rooms : Rooms) →
-    checked (certificateRows delay vector refutation rooms net) ≡ Passes → Passing net delay vector refutation rooms
-certificate-passes net delay vector refutation rooms e =
-    let evaluating = evaluationRows net vector (rooms .values) (rooms .times) in
+pub certificate-passes : (circuit : Circuit) (delay : ℕ) (vector : List ℕ) (refutation : List ℤ) (rooms : Rooms) →
+    checked (certificateRows delay vector refutation rooms circuit) ≡ Passes → Passing circuit delay vector refutation rooms
+certificate-passes circuit delay vector refutation rooms e =
+    let evaluating = evaluationRows circuit vector (rooms .values) (rooms .times) in
     let refuting =
-    refutingRows net (suc delay) refutation (rooms .pairs) (rooms .formula) (rooms .propagation)
+    refutingRows circuit (suc delay) refutation (rooms .pairs) (rooms .formula) (rooms .propagation)
     in
-    let rows : List Row = witnessRow net delay vector ∷ refuting in
-    let time = circuitTime net (atZero net) (bits vector) in
+    let rows : List Row = witnessRow circuit delay vector ∷ refuting in
+    let time = circuitTime circuit (bits vector) in
     let witness = passed-by (not (eqb time delay)) (Witness time) refuting (rest-passes evaluating rows e) in
-    let building = buildingRows net (suc delay) (rooms .pairs) (rooms .formula) in
-    let testing = refutationRows (countsFor net (suc delay) .variables) refutation (rooms .propagation) in
+    let building = buildingRows circuit (suc delay) (rooms .pairs) (rooms .formula) in
+    let testing = refutationRows (countsFor circuit (suc delay) .variables) refutation (rooms .propagation) in
     record {
-      long = vector-passes net vector (rooms .values) (rooms .times) (first-passes evaluating rows e);
+      long = vector-passes circuit vector (rooms .values) (rooms .times) (first-passes evaluating rows e);
       settles = eqb-true time delay (not-back (eqb time delay) (witness .0));
       building = first-passes building testing (witness .1);
       testing = rest-passes building testing (witness .1);

@@ -21,13 +21,13 @@ use Rattle.refusal.proofs.Rows.{stops, goes-on, refused-first, passed-first}
 use Rattle.netlist.specs.declared.Shape.{Shape}
 use Rattle.netlist.specs.declared.Opened.{Opened}
 use Rattle.netlist.specs.declared.Opened.the-variants.{Accepted as Taken, Refused as Untaken}
-use Rattle.netlist.specs.Netlist.{Netlist, valid}
-use Rattle.netlist.specs.File.{netlistAt, netlistOf}
+use Rattle.netlist.specs.Netlist.{Netlist, valid, Circuit, atZero}
+use Rattle.netlist.specs.File.{circuitAt}
 use Rattle.netlist.specs.Open.{openOf, rowsOver}
-use Rattle.netlist.proofs.Calls.{accepted-net, rows-accepted, rows-rejected}
+use Rattle.netlist.proofs.Calls.{accepted-circuit, rows-accepted, rows-rejected}
 use Rattle.settle.specs.declared.Settled.{Settled}
 use Rattle.settle.specs.declared.Settled.the-variants.{At, Refused as Unsettled}
-use Rattle.settle.specs.Settling.{atZero, circuitTime}
+use Rattle.settle.specs.Settling.{circuitTime}
 use Rattle.settle.specs.Promise.{bits, evaluationRows, evaluationOf}
 use Rattle.settle.proofs.Checks.{answer-refused, answer-time}
 use Rattle.settle.proofs.Nodes.{circuit-small}
@@ -61,64 +61,64 @@ use Rattle.certificate.proofs.Numbers.{numbers-well-formed}
 
 -- a time at which a vector settles is small
 pub time-small : (net : Netlist) (vector : List ℕ) (valuesRoom timesRoom : ℕ) {answer : Settled} {time : ℕ} →
-    T (valid net) → answer ≡ evaluationOf net vector valuesRoom timesRoom .answer → answer ≡ At time →
+    T (valid net) → answer ≡ evaluationOf (atZero net) vector valuesRoom timesRoom .answer → answer ≡ At time →
     time ≤ 447552
 time-small net vector valuesRoom timesRoom ok a e =
-    let s = answer-time net vector valuesRoom timesRoom a e in
+    let s = answer-time (atZero net) vector valuesRoom timesRoom a e in
     let h = circuit-small net ok (bits vector) in
     omega (arith, s .1)
 
 -- ---- the refutation's part
 
 -- what the building leaves for the test: the formula's numbers are the front of its slice, and well formed
-pub record Formed (net : Netlist) (target : ℕ) (counts : Counts) (formula : List ℤ) : Type 0 where
+pub record Formed (circuit : Circuit) (target : ℕ) (counts : Counts) (formula : List ℤ) : Type 0 where
   pub fit : counts .numbers ≤ length formula
-  pub numbers-are : take (counts .numbers) formula ≡ numbersFor net target
+  pub numbers-are : take (counts .numbers) formula ≡ numbersFor circuit target
   pub front-long : counts .numbers ≡ length (take (counts .numbers) formula)
-  pub variables-are : counts .variables ≡ countsFor net target .variables
+  pub variables-are : counts .variables ≡ countsFor circuit target .variables
   pub well-formed : WellFormed (counts .variables) (take (counts .numbers) formula)
 
-pub formed : {net : Netlist} {target : ℕ} (pairsRoom formulaRoom : ℕ) {answer : Built} {counts : Counts}
-    {formula : List ℤ} → T (valid net) → answer ≡ buildingOf net target pairsRoom formulaRoom .answer →
-    formula ≡ buildingOf net target pairsRoom formulaRoom .formula → answer ≡ Formula counts →
-    Formed net target counts formula
+pub formed : {circuit : Circuit} {target : ℕ} (pairsRoom formulaRoom : ℕ) {answer : Built} {counts : Counts}
+    {formula : List ℤ} → T (valid (circuit .net)) → answer ≡ buildingOf circuit target pairsRoom formulaRoom .answer →
+    formula ≡ buildingOf circuit target pairsRoom formulaRoom .formula → answer ≡ Formula counts →
+    Formed circuit target counts formula
 unfolding countsFor built
-formed {net} {target} pairsRoom formulaRoom {answer} {counts} {formula} ok a f e =
-    let b = answer-counts net target pairsRoom formulaRoom a e in
-    let n : counts .numbers ≡ length (numbersFor net target) = ap (λ (k : Counts). k .numbers) (b .1) in
+formed {circuit} {target} pairsRoom formulaRoom {answer} {counts} {formula} ok a f e =
+    let b = answer-counts circuit target pairsRoom formulaRoom a e in
+    let n : counts .numbers ≡ length (numbersFor circuit target) = ap (λ (k : Counts). k .numbers) (b .1) in
     let v = ap (λ (k : Counts). k .variables) (b .1) in
-    let whole = f ∙ ap (λ (k : Building). k .formula) (passed-built net target pairsRoom formulaRoom (b .0)) in
-    let zeros = replicate (formulaRoom - length (numbersFor net target)) (pos 0) in
-    let front : take (counts .numbers) formula ≡ numbersFor net target =
-    ap₂ take n whole ∙ take-at (numbersFor net target) zeros (length (numbersFor net target)) refl
+    let whole = f ∙ ap (λ (k : Building). k .formula) (passed-built circuit target pairsRoom formulaRoom (b .0)) in
+    let zeros = replicate (formulaRoom - length (numbersFor circuit target)) (pos 0) in
+    let front : take (counts .numbers) formula ≡ numbersFor circuit target =
+    ap₂ take n whole ∙ take-at (numbersFor circuit target) zeros (length (numbersFor circuit target)) refl
     in
     record {
-      fit = omega (arith, ap length whole, length-append (numbersFor net target) zeros);
+      fit = omega (arith, ap length whole, length-append (numbersFor circuit target) zeros);
       numbers-are = front;
       front-long = n ∙ sym (ap length front);
       variables-are = v;
       well-formed =
           subst (WellFormed (counts .variables)) (sym front)
-          (subst (λ (k : ℕ). WellFormed k (numbersFor net target)) (sym v)
-          (numbers-well-formed net ok target (omega (arith, pairs-fit net target pairsRoom formulaRoom (b .0)))));
+          (subst (λ (k : ℕ). WellFormed k (numbersFor circuit target)) (sym v)
+          (numbers-well-formed circuit ok target (omega (arith, pairs-fit circuit target pairsRoom formulaRoom (b .0)))));
     }
 
-module _ {net : Netlist} {target : ℕ} {refutation : List ℤ} {pairsRoom formulaRoom propagationRoom : ℕ}
+module _ {circuit : Circuit} {target : ℕ} {refutation : List ℤ} {pairsRoom formulaRoom propagationRoom : ℕ}
     {answer : Built} {pairs : List ℕ} {formula : List ℤ} {propagation : List ℕ} where
   -- the building is refused
-  pub refutes-refused : {refusal : Refusal} → answer ≡ buildingOf net target pairsRoom formulaRoom .answer →
-      pairs ≡ buildingOf net target pairsRoom formulaRoom .pairs →
-      formula ≡ buildingOf net target pairsRoom formulaRoom .formula →
+  pub refutes-refused : {refusal : Refusal} → answer ≡ buildingOf circuit target pairsRoom formulaRoom .answer →
+      pairs ≡ buildingOf circuit target pairsRoom formulaRoom .pairs →
+      formula ≡ buildingOf circuit target pairsRoom formulaRoom .formula →
       length pairs ≡ pairsRoom → length formula ≡ formulaRoom → length propagation ≡ propagationRoom →
       answer ≡ Unbuilt refusal →
-      Refutes net target refutation pairsRoom formulaRoom propagationRoom (Refused refusal) pairs formula propagation
+      Refutes circuit target refutation pairsRoom formulaRoom propagationRoom (Refused refusal) pairs formula propagation
   refutes-refused {refusal} a p f l m n e =
       record {
         answers =
             malformed
-            (refused-first (buildingRows net target pairsRoom formulaRoom)
-            (refutationRows (countsFor net target .variables) refutation propagationRoom)
-            (build-refused net target pairsRoom formulaRoom a e));
+            (refused-first (buildingRows circuit target pairsRoom formulaRoom)
+            (refutationRows (countsFor circuit target .variables) refutation propagationRoom)
+            (build-refused circuit target pairsRoom formulaRoom a e));
         pairs-are = p;
         formula-is = f;
         propagation-is = λ q. let w : _≡_ {A = ℕ} 0 1 = cc in absurd (omega arith);
@@ -128,25 +128,25 @@ module _ {net : Netlist} {target : ℕ} {refutation : List ℤ} {pairsRoom formu
       }
 
   -- the formula is built, and the refutation tested
-  pub refutes-tested : {counts : Counts} {tested : Checked} → T (valid net) →
-      answer ≡ buildingOf net target pairsRoom formulaRoom .answer →
-      pairs ≡ buildingOf net target pairsRoom formulaRoom .pairs →
-      formula ≡ buildingOf net target pairsRoom formulaRoom .formula →
+  pub refutes-tested : {counts : Counts} {tested : Checked} → T (valid (circuit .net)) →
+      answer ≡ buildingOf circuit target pairsRoom formulaRoom .answer →
+      pairs ≡ buildingOf circuit target pairsRoom formulaRoom .pairs →
+      formula ≡ buildingOf circuit target pairsRoom formulaRoom .formula →
       length pairs ≡ pairsRoom → length formula ≡ formulaRoom → length propagation ≡ propagationRoom →
       answer ≡ Formula counts →
       Tested (counts .variables) (take (counts .numbers) formula) refutation propagationRoom tested →
       propagation ≡ replicate propagationRoom 0 →
-      Refutes net target refutation pairsRoom formulaRoom propagationRoom tested pairs formula propagation
+      Refutes circuit target refutation pairsRoom formulaRoom propagationRoom tested pairs formula propagation
   refutes-tested {counts} {tested} ok a p f l m n e t z =
       let b = formed pairsRoom formulaRoom ok a f e in
       record {
         answers =
             answers-as
             (sym
-            (passed-first (buildingRows net target pairsRoom formulaRoom)
-            (refutationRows (countsFor net target .variables) refutation propagationRoom)
-            (answer-counts net target pairsRoom formulaRoom a e .0)))
-            (subst (λ (k : ℕ). Tested k (numbersFor net target) refutation propagationRoom tested) (b .variables-are)
+            (passed-first (buildingRows circuit target pairsRoom formulaRoom)
+            (refutationRows (countsFor circuit target .variables) refutation propagationRoom)
+            (answer-counts circuit target pairsRoom formulaRoom a e .0)))
+            (subst (λ (k : ℕ). Tested k (numbersFor circuit target) refutation propagationRoom tested) (b .variables-are)
             (subst (λ (zs : List ℤ). Tested (counts .variables) zs refutation propagationRoom tested)
             (b .numbers-are) t));
         pairs-are = p;
@@ -170,22 +170,22 @@ meets-as : {a b result : Judgement} → a ≡ b → Meets a result → Meets b r
 meets-as {result = result} e m = subst (λ (promised : Judgement). Meets promised result) e m
 
 -- the rows up to the vector's, and those after it
-abbrev evaluating : Netlist → List ℕ → Rooms → List Row
-evaluating net vector rooms = evaluationRows net vector (rooms .values) (rooms .times)
+abbrev evaluating : Circuit → List ℕ → Rooms → List Row
+evaluating circuit vector rooms = evaluationRows circuit vector (rooms .values) (rooms .times)
 
-abbrev refuting : Netlist → ℕ → List ℤ → Rooms → List Row
-refuting net delay refutation rooms =
-    refutingRows net (suc delay) refutation (rooms .pairs) (rooms .formula) (rooms .propagation)
+abbrev refuting : Circuit → ℕ → List ℤ → Rooms → List Row
+refuting circuit delay refutation rooms =
+    refutingRows circuit (suc delay) refutation (rooms .pairs) (rooms .formula) (rooms .propagation)
 
-module _ {net : Netlist} {delay : ℕ} {vector : List ℕ} {refutation : List ℤ} {rooms : Rooms}
+module _ {circuit : Circuit} {delay : ℕ} {vector : List ℕ} {refutation : List ℤ} {rooms : Rooms}
     {values times pairs : List ℕ} {formula : List ℤ} {propagation : List ℕ} {answer : Settled}
-    (a : answer ≡ evaluationOf net vector (rooms .values) (rooms .times) .answer) where
+    (a : answer ≡ evaluationOf circuit vector (rooms .values) (rooms .times) .answer) where
   -- a row refuses: what the slices hold matters no more, but for their lengths
   certified-refused : {refusal : Refusal} →
-      checked (certificateRows delay vector refutation rooms net) ≡ Refused refusal →
+      checked (certificateRows delay vector refutation rooms circuit) ≡ Refused refusal →
       length values ≡ rooms .values → length times ≡ rooms .times → length pairs ≡ rooms .pairs →
       length formula ≡ rooms .formula → length propagation ≡ rooms .propagation →
-      Certified net delay vector refutation rooms (Refused refusal) values times pairs formula propagation
+      Certified circuit delay vector refutation rooms (Refused refusal) values times pairs formula propagation
   certified-refused e v t p f g =
       record {
         answers = malformed e;
@@ -197,51 +197,51 @@ module _ {net : Netlist} {delay : ℕ} {vector : List ℕ} {refutation : List �
   pub certified-unsettled : {refusal : Refusal} → answer ≡ Unsettled refusal →
       length values ≡ rooms .values → length times ≡ rooms .times → length pairs ≡ rooms .pairs →
       length formula ≡ rooms .formula → length propagation ≡ rooms .propagation →
-      Certified net delay vector refutation rooms (Refused refusal) values times pairs formula propagation
+      Certified circuit delay vector refutation rooms (Refused refusal) values times pairs formula propagation
   certified-unsettled e =
       certified-refused
-      (refused-first (evaluating net vector rooms)
-      (witnessRow net delay vector ∷ refuting net delay refutation rooms)
-      (answer-refused net vector (rooms .values) (rooms .times) a e))
+      (refused-first (evaluating circuit vector rooms)
+      (witnessRow circuit delay vector ∷ refuting circuit delay refutation rooms)
+      (answer-refused circuit vector (rooms .values) (rooms .times) a e))
 
   module _ {time : ℕ} (e : answer ≡ At time) where
     -- the vector settles at another time
     pub certified-late : (time ≡ delay → ⊥) →
         length values ≡ rooms .values → length times ≡ rooms .times → length pairs ≡ rooms .pairs →
         length formula ≡ rooms .formula → length propagation ≡ rooms .propagation →
-        Certified net delay vector refutation rooms (Refused (Witness time)) values times pairs formula propagation
+        Certified circuit delay vector refutation rooms (Refused (Witness time)) values times pairs formula propagation
     certified-late h =
-        let says = answer-time net vector (rooms .values) (rooms .times) a e in
+        let says = answer-time circuit vector (rooms .values) (rooms .times) a e in
         certified-refused
-        (passed-first (evaluating net vector rooms)
-        (witnessRow net delay vector ∷ refuting net delay refutation rooms) (says .0)
-        ∙ stops (Witness (circuitTime net (atZero net) (bits vector))) (refuting net delay refutation rooms)
-        (ap not (ne-eqb (circuitTime net (atZero net) (bits vector)) delay (λ q. h (sym (says .1) ∙ q))))
+        (passed-first (evaluating circuit vector rooms)
+        (witnessRow circuit delay vector ∷ refuting circuit delay refutation rooms) (says .0)
+        ∙ stops (Witness (circuitTime circuit (bits vector))) (refuting circuit delay refutation rooms)
+        (ap not (ne-eqb (circuitTime circuit (bits vector)) delay (λ q. h (sym (says .1) ∙ q))))
         ∙ ap (λ (t : ℕ). Refused (Witness t)) (says .1))
 
     -- it settles at the delay, and the refutation is tested
     pub certified-tested : {tested : Checked} {target : ℕ} → time ≡ delay →
-        values ≡ evaluationOf net vector (rooms .values) (rooms .times) .values →
-        times ≡ evaluationOf net vector (rooms .values) (rooms .times) .times →
+        values ≡ evaluationOf circuit vector (rooms .values) (rooms .times) .values →
+        times ≡ evaluationOf circuit vector (rooms .values) (rooms .times) .times →
         length values ≡ rooms .values → length times ≡ rooms .times → target ≡ suc delay →
-        Refutes net target refutation (rooms .pairs) (rooms .formula) (rooms .propagation) tested pairs formula
+        Refutes circuit target refutation (rooms .pairs) (rooms .formula) (rooms .propagation) tested pairs formula
         propagation →
-        Certified net delay vector refutation rooms tested values times pairs formula propagation
+        Certified circuit delay vector refutation rooms tested values times pairs formula propagation
     unfolding accepted
     certified-tested {tested} h v t l m next r =
-        let says = answer-time net vector (rooms .values) (rooms .times) a e in
+        let says = answer-time circuit vector (rooms .values) (rooms .times) a e in
         record {
           answers =
               answers-as
               (sym
-              (passed-first (evaluating net vector rooms)
-              (witnessRow net delay vector ∷ refuting net delay refutation rooms) (says .0)
-              ∙ goes-on (Witness (circuitTime net (atZero net) (bits vector))) (refuting net delay refutation rooms)
-              (ap not (eq-eqb (circuitTime net (atZero net) (bits vector)) delay (says .1 ∙ h)))))
+              (passed-first (evaluating circuit vector rooms)
+              (witnessRow circuit delay vector ∷ refuting circuit delay refutation rooms) (says .0)
+              ∙ goes-on (Witness (circuitTime circuit (bits vector))) (refuting circuit delay refutation rooms)
+              (ap not (eq-eqb (circuitTime circuit (bits vector)) delay (says .1 ∙ h)))))
               (subst
               (λ (n : ℕ).
-              Answers (refutingRows net n refutation (rooms .pairs) (rooms .formula) (rooms .propagation))
-              (clausesOf (numbersFor net n)) (clausesOf refutation) tested)
+              Answers (refutingRows circuit n refutation (rooms .pairs) (rooms .formula) (rooms .propagation))
+              (clausesOf (numbersFor circuit n)) (clausesOf refutation) tested)
               next (r .answers));
           leaves =
               λ q.
@@ -250,9 +250,9 @@ module _ {net : Netlist} {delay : ℕ} {vector : List ℕ} {refutation : List �
                 values-are = v;
                 times-are = t;
                 pairs-are =
-                    r .pairs-are ∙ ap (λ (n : ℕ). buildingOf net n (rooms .pairs) (rooms .formula) .pairs) next;
+                    r .pairs-are ∙ ap (λ (n : ℕ). buildingOf circuit n (rooms .pairs) (rooms .formula) .pairs) next;
                 formula-is =
-                    r .formula-is ∙ ap (λ (n : ℕ). buildingOf net n (rooms .pairs) (rooms .formula) .formula) next;
+                    r .formula-is ∙ ap (λ (n : ℕ). buildingOf circuit n (rooms .pairs) (rooms .formula) .formula) next;
                 propagation-is = r .propagation-is q;
               };
           rooms-are = same-rooms l m (r .pairs-long) (r .formula-long) (r .propagation-long);
@@ -274,22 +274,22 @@ module _ {file : List ℕ} {delay : ℕ} {vector : List ℕ} {refutation : List 
   -- the file is accepted, and its certificate was looked at
   module _ {opened : Opened} {shape : Shape} {answer : Checked} {values times pairs : List ℕ} {formula : List ℤ}
       {propagation : List ℕ} (o : opened ≡ openOf file) (e : opened ≡ Taken shape)
-      (c : Certified (netlistAt file shape) delay vector refutation rooms answer values times pairs formula
+      (c : Certified (circuitAt file shape) delay vector refutation rooms answer values times pairs formula
       propagation) where
-    judges : {result : Judgement} → Meets (judgementOf (netlistAt file shape) delay vector rooms answer) result →
+    judges : {result : Judgement} → Meets (judgementOf (circuitAt file shape) delay vector rooms answer) result →
         Judges file delay vector refutation rooms result
     judges r =
-        let same = accepted-net file (sym o ∙ e) in
+        let same = accepted-circuit file (sym o ∙ e) in
         record {
           answer = answer;
           answers =
               answers-as (sym (rows-accepted file (certificateRows delay vector refutation rooms) (sym o ∙ e)))
               (subst
-              (λ (net : Netlist).
-              Answers (certificateRows delay vector refutation rooms (netlistAt file shape))
-              (clausesOf (numbersFor net (suc delay))) (clausesOf refutation) answer)
+              (λ (circuit : Circuit).
+              Answers (certificateRows delay vector refutation rooms (circuitAt file shape))
+              (clausesOf (numbersFor circuit (suc delay))) (clausesOf refutation) answer)
               (sym same) (c .answers));
-          meets = meets-as (ap (λ (net : Netlist). judgementOf net delay vector rooms answer) (sym same)) r;
+          meets = meets-as (ap (λ (circuit : Circuit). judgementOf circuit delay vector rooms answer) (sym same)) r;
         }
 
     -- it is refused
@@ -300,11 +300,11 @@ module _ {file : List ℕ} {delay : ℕ} {vector : List ℕ} {refutation : List 
         judges
         (meets-as
         (ap (λ (k : Rooms). refused k refusal) (c .rooms-are)
-        ∙ sym (ap (judgementOf (netlistAt file shape) delay vector rooms) q))
+        ∙ sym (ap (judgementOf (circuitAt file shape) delay vector rooms) q))
         z)
 
     -- it is accepted
     pub judges-accepted : answer ≡ Passes →
         Judges file delay vector refutation rooms (leaving Passes values times pairs formula propagation)
     judges-accepted q =
-        judges (meets-as (sym (ap (judgementOf (netlistAt file shape) delay vector rooms) q)) (c .leaves q))
+        judges (meets-as (sym (ap (judgementOf (circuitAt file shape) delay vector rooms) q)) (c .leaves q))

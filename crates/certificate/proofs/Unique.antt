@@ -4,7 +4,7 @@ use mathlib.Core.List.{List}
 use Prim.Native.Nat.{ℕ}
 use lib.IntN.{ℤ}
 use Rattle.refusal.specs.declared.Checked.{Checked}
-use Rattle.netlist.specs.File.{netlistOf}
+use Rattle.netlist.specs.File.{circuitOf}
 use Rattle.refute.proofs.Unique.{answers-unique}
 use Rattle.certificate.specs.Promise.{Rooms, Judgement, Meets, leaving, judgementOf, Judges}
 
@@ -26,5 +26,5 @@ pub judges-unique : (file : List ℕ) (delay : ℕ) (vector : List ℕ) (refutat
 judges-unique file delay vector refutation rooms a b p q =
     same
     (subst (λ (promised : Judgement). Meets promised a)
-    (ap (judgementOf (netlistOf file) delay vector rooms) (answers-unique (p .answers) (q .answers))) (p .meets))
+    (ap (judgementOf (circuitOf file) delay vector rooms) (answers-unique (p .answers) (q .answers))) (p .meets))
     (q .meets)

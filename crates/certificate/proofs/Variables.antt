@@ -23,7 +23,7 @@ use Rattle.basics.proofs.Truth.{is-true, and-both, and-left, and-right}
 use Rattle.basics.proofs.Lists.{all-of, all-join, all-concatMap-of, map-mem, concatMap-mem}
 use Rattle.netlist.specs.declared.Kind.{Kind}
 use Rattle.netlist.specs.declared.Kind.the-variants.{Simple, Parity, Mux}
-use Rattle.netlist.specs.Netlist.{Netlist, Cell, Pin, nodeCount, valid}
+use Rattle.netlist.specs.Netlist.{Cell, Pin, nodeCount, valid, Circuit}
 use Rattle.settle.specs.Cubes.{Cube, cubes}
 use Rattle.settle.proofs.Cubes.{cube-pin}
 use Rattle.settle.proofs.Nodes.{Laid, laid}
@@ -228,8 +228,8 @@ module _ {I N : ℕ} {gates : List (ℕ × Cell)} {top : ℕ → ℕ} {times : �
 -- ---- over integers
 
 -- "A node's variable is its number plus 1. Pairs take N+1, N+2 and on": V of a netlist's formula
-abbrev pub variablesFor : Netlist → List ℕ → ℕ → ℕ
-variablesFor net arrivals target = nodeCount net + length (pairsFor net arrivals target)
+abbrev pub variablesFor : Circuit → ℕ → ℕ
+variablesFor circuit target = nodeCount (circuit .net) + length (pairsFor circuit target)
 
 -- a variable is 1 to V
 abbrev pub isVariable : ℕ → ℕ → Bool
@@ -239,14 +239,14 @@ is-variable : (variables v : ℕ) → 0 < v → v ≤ variables → T (isVariabl
 is-variable variables v a b = and-both (ltb 0 v) (leb v variables) (lt→ltb 0 v a) (le→leb v variables b)
 
 -- every variable of a valid netlist's formula is 1 to V
-pub formula-variables : (net : Netlist) → T (valid net) → (arrivals : List ℕ) (target : ℕ) →
-    T (clausesAllowed (isVariable (variablesFor net arrivals target)) (formulaFor net arrivals target))
+pub formula-variables : (circuit : Circuit) → T (valid (circuit .net)) → (target : ℕ) →
+    T (clausesAllowed (isVariable (variablesFor circuit target)) (formulaFor circuit target))
 unfolding formulaFor pairVariable
-formula-variables net ok arrivals target =
-    formula-allowed (laid net ok) (closed-for net ok arrivals target) nodeVariable
-    (pairVariable net arrivals target) (isVariable (variablesFor net arrivals target))
-    (λ n h. is-variable (variablesFor net arrivals target) (suc n) (omega arith) (omega arith))
+formula-variables circuit ok target =
+    formula-allowed (laid (circuit .net) ok) (closed-for circuit ok target) nodeVariable
+    (pairVariable circuit target) (isVariable (variablesFor circuit target))
+    (λ n h. is-variable (variablesFor circuit target) (suc n) (omega arith) (omega arith))
     (λ n t m.
-    let below = placed-for net ok arrivals target n t m in
-    is-variable (variablesFor net arrivals target) (suc (nodeCount net + placeOf n t (pairsFor net arrivals target)))
+    let below = placed-for circuit ok target n t m in
+    is-variable (variablesFor circuit target) (suc (nodeCount (circuit .net) + placeOf n t (pairsFor circuit target)))
     (omega arith) (omega arith))

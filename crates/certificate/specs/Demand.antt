@@ -7,7 +7,7 @@ use Prim.Native.Nat.{ℕ, _<_}
 use lib.Dec.{T, leb}
 use lib.ListN.{length, getD}
 use Rattle.basics.specs.Lists.{any}
-use Rattle.netlist.specs.Netlist.{Netlist}
+use Rattle.netlist.specs.Netlist.{Netlist, Circuit}
 use Rattle.settle.specs.Settling.{timeOf}
 use Rattle.clauses.specs.Clauses.{Literal, satisfies}
 use Rattle.formula.specs.Formula.{nodeVariable, formulaFor}
@@ -20,15 +20,15 @@ pub record Completes (net : Netlist) (vector : List Bool) (clauses : List (List 
   pub solves : T (satisfies assignment clauses)
 
 -- to a solution of the formula for a target
-abbrev pub Solution : Netlist → List ℕ → List Bool → ℕ → Type 0
-Solution net arrivals vector target = Completes net vector (formulaFor net arrivals target)
+abbrev pub Solution : Circuit → List Bool → ℕ → Type 0
+Solution circuit vector target = Completes (circuit .net) vector (formulaFor circuit target)
 
 -- some output settles at the target or later under the vector
-abbrev pub someLate : Netlist → List ℕ → List Bool → ℕ → Bool
-someLate net arrivals vector target = any (λ o. leb target (timeOf net arrivals vector o)) (net .outputs)
+abbrev pub someLate : Circuit → List Bool → ℕ → Bool
+someLate circuit vector target = any (λ o. leb target (timeOf circuit vector o)) (circuit .net .outputs)
 
--- demand 3 of a netlist: "an input vector can be completed to a solution of the formula exactly when some output
+-- demand 3 of a circuit: "an input vector can be completed to a solution of the formula exactly when some output
 -- settles at that time or later under it"
-pub record Demand (net : Netlist) (arrivals : List ℕ) : Type 0 where
-  pub completes : (vector : List Bool) → length vector ≡ net .inputs → (target : ℕ) →
-      Solution net arrivals vector target ↔ T (someLate net arrivals vector target)
+pub record Demand (circuit : Circuit) : Type 0 where
+  pub completes : (vector : List Bool) → length vector ≡ circuit .net .inputs → (target : ℕ) →
+      Solution circuit vector target ↔ T (someLate circuit vector target)

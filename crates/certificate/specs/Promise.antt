@@ -13,10 +13,10 @@ use Rattle.refusal.specs.declared.Refusal.the-variants.{Witness}
 use Rattle.refusal.specs.declared.Checked.{Checked}
 use Rattle.refusal.specs.declared.Checked.the-variants.{Passes, Refused}
 use Rattle.refusal.specs.Rows.{Row, unlessRefused}
-use Rattle.netlist.specs.Netlist.{Netlist}
-use Rattle.netlist.specs.File.{netlistOf}
+use Rattle.netlist.specs.Netlist.{Circuit}
+use Rattle.netlist.specs.File.{circuitOf}
 use Rattle.netlist.specs.Open.{rowsOver}
-use Rattle.settle.specs.Settling.{atZero, circuitTime}
+use Rattle.settle.specs.Settling.{circuitTime}
 use Rattle.settle.specs.Promise.{bits, evaluationRows, evaluationOf}
 use Rattle.clauses.specs.Clauses.{clausesOf}
 use Rattle.refute.specs.Rows.{refutationRows}
@@ -75,25 +75,25 @@ pub record Meets (promised result : Judgement) : Type 0 where
 -- ---- the rows before 14
 
 -- 15 WITNESS "the vector doesn't settle at D": "time it does"
-abbrev pub witnessRow : Netlist → ℕ → List ℕ → Row
-witnessRow net delay vector = (
-  not (eqb (circuitTime net (atZero net) (bits vector)) delay),
-  Witness (circuitTime net (atZero net) (bits vector)),
+abbrev pub witnessRow : Circuit → ℕ → List ℕ → Row
+witnessRow circuit delay vector = (
+  not (eqb (circuitTime circuit (bits vector)) delay),
+  Witness (circuitTime circuit (bits vector)),
 )
 
 -- the formula for a target is built, and the refutation tested against it: 10, room for the formula, 12, 13, room for
 -- propagation
-abbrev pub refutingRows : Netlist → ℕ → List ℤ → ℕ → ℕ → ℕ → List Row
-refutingRows net target refutation pairsRoom formulaRoom propagationRoom =
-    buildingRows net target pairsRoom formulaRoom
-    ++ refutationRows (countsFor net target .variables) refutation propagationRoom
+abbrev pub refutingRows : Circuit → ℕ → List ℤ → ℕ → ℕ → ℕ → List Row
+refutingRows circuit target refutation pairsRoom formulaRoom propagationRoom =
+    buildingRows circuit target pairsRoom formulaRoom
+    ++ refutationRows (countsFor circuit target .variables) refutation propagationRoom
 
--- of an accepted netlist: the vector is evaluated, 8 and its rooms; 15; then the formula for D+1
-abbrev pub certificateRows : ℕ → List ℕ → List ℤ → Rooms → Netlist → List Row
-certificateRows delay vector refutation rooms net =
-    evaluationRows net vector (rooms .values) (rooms .times)
-    ++ (witnessRow net delay vector
-    ∷ refutingRows net (suc delay) refutation (rooms .pairs) (rooms .formula) (rooms .propagation))
+-- of an accepted circuit: the vector is evaluated, 8 and its rooms; 15; then the formula for D+1
+abbrev pub certificateRows : ℕ → List ℕ → List ℤ → Rooms → Circuit → List Row
+certificateRows delay vector refutation rooms circuit =
+    evaluationRows circuit vector (rooms .values) (rooms .times)
+    ++ (witnessRow circuit delay vector
+    ∷ refutingRows circuit (suc delay) refutation (rooms .pairs) (rooms .formula) (rooms .propagation))
 
 -- ---- answer and slices
 
@@ -111,20 +111,20 @@ refused rooms refusal =
 
 -- "A building or certificate call that succeeds leaves pairs and formula in their slices, a certificate call also
 -- values and times. Success zeroes whatever part wasn't needed, and the whole propagation slice."
-unfoldable pub accepted : Netlist → ℕ → List ℕ → Rooms → Judgement
-accepted net delay vector rooms =
+unfoldable pub accepted : Circuit → ℕ → List ℕ → Rooms → Judgement
+accepted circuit delay vector rooms =
     record {
       answer = Passes;
-      values = evaluationOf net vector (rooms .values) (rooms .times) .values;
-      times = evaluationOf net vector (rooms .values) (rooms .times) .times;
-      pairs = buildingOf net (suc delay) (rooms .pairs) (rooms .formula) .pairs;
-      formula = buildingOf net (suc delay) (rooms .pairs) (rooms .formula) .formula;
+      values = evaluationOf circuit vector (rooms .values) (rooms .times) .values;
+      times = evaluationOf circuit vector (rooms .values) (rooms .times) .times;
+      pairs = buildingOf circuit (suc delay) (rooms .pairs) (rooms .formula) .pairs;
+      formula = buildingOf circuit (suc delay) (rooms .pairs) (rooms .formula) .formula;
       propagation = replicate (rooms .propagation) 0;
     }
 
 -- what a check comes to
-abbrev pub judgementOf : Netlist → ℕ → List ℕ → Rooms → Checked → Judgement
-judgementOf net delay vector rooms answer = unlessRefused answer (refused rooms) (accepted net delay vector rooms)
+abbrev pub judgementOf : Circuit → ℕ → List ℕ → Rooms → Checked → Judgement
+judgementOf circuit delay vector rooms answer = unlessRefused answer (refused rooms) (accepted circuit delay vector rooms)
 
 -- of any bytes, any delay, any vector and any refutation: the first row before 14 that refuses; or else 14 STEP, or
 -- acceptance, by the order-free verdict on the refutation against the very numbers of the formula for D+1
@@ -133,5 +133,5 @@ pub record Judges (file : List ℕ) (delay : ℕ) (vector : List ℕ) (refutatio
   pub answer : Checked
   pub answers :
       Answers (rowsOver file (certificateRows delay vector refutation rooms))
-      (clausesOf (numbersFor (netlistOf file) (suc delay))) (clausesOf refutation) answer
-  pub meets : Meets (judgementOf (netlistOf file) delay vector rooms answer) result
+      (clausesOf (numbersFor (circuitOf file) (suc delay))) (clausesOf refutation) answer
+  pub meets : Meets (judgementOf (circuitOf file) delay vector rooms answer) result

@@ -1,4 +1,4 @@
--- The steps of a certificate call on an accepted netlist: the refutation's part, and the whole certificate.
+-- The steps of a certificate call on an accepted circuit: the refutation's part, and the whole certificate.
 -- Each with its rows and what it leaves in its slices. These serve the code. Interface: Refutes, Certified.
 use mathlib.Core.Path.{_≡_}
 use mathlib.Core.List.{List}
@@ -7,7 +7,7 @@ use lib.IntN.{ℤ}
 use lib.ListN.{length, replicate}
 use Rattle.refusal.specs.declared.Checked.{Checked}
 use Rattle.refusal.specs.declared.Checked.the-variants.{Passes}
-use Rattle.netlist.specs.Netlist.{Netlist}
+use Rattle.netlist.specs.Netlist.{Circuit}
 use Rattle.clauses.specs.Clauses.{clausesOf}
 use Rattle.refute.specs.Promise.{Answers}
 use Rattle.formula.specs.Promise.{numbersFor, buildingOf}
@@ -22,24 +22,24 @@ use Rattle.certificate.specs.Promise.{
 }
 
 -- the formula for a target is built, and the refutation tested against its numbers
-pub record Refutes (net : Netlist) (target : ℕ) (refutation : List ℤ) (pairsRoom formulaRoom propagationRoom : ℕ)
+pub record Refutes (circuit : Circuit) (target : ℕ) (refutation : List ℤ) (pairsRoom formulaRoom propagationRoom : ℕ)
     (answer : Checked) (pairs : List ℕ) (formula : List ℤ) (propagation : List ℕ) : Type 0 where
   pub answers :
-      Answers (refutingRows net target refutation pairsRoom formulaRoom propagationRoom)
-      (clausesOf (numbersFor net target)) (clausesOf refutation) answer
-  pub pairs-are : pairs ≡ buildingOf net target pairsRoom formulaRoom .pairs
-  pub formula-is : formula ≡ buildingOf net target pairsRoom formulaRoom .formula
+      Answers (refutingRows circuit target refutation pairsRoom formulaRoom propagationRoom)
+      (clausesOf (numbersFor circuit target)) (clausesOf refutation) answer
+  pub pairs-are : pairs ≡ buildingOf circuit target pairsRoom formulaRoom .pairs
+  pub formula-is : formula ≡ buildingOf circuit target pairsRoom formulaRoom .formula
   pub propagation-is : answer ≡ Passes → propagation ≡ replicate propagationRoom 0
   pub pairs-long : length pairs ≡ pairsRoom
   pub formula-long : length formula ≡ formulaRoom
   pub propagation-long : length propagation ≡ propagationRoom
 
 -- the vector is evaluated and settles at the delay; then the refutation is tested against the formula for one more
-pub record Certified (net : Netlist) (delay : ℕ) (vector : List ℕ) (refutation : List ℤ) (rooms : Rooms)
+pub record Certified (circuit : Circuit) (delay : ℕ) (vector : List ℕ) (refutation : List ℤ) (rooms : Rooms)
     (answer : Checked) (values times pairs : List ℕ) (formula : List ℤ) (propagation : List ℕ) : Type 0 where
   pub answers :
-      Answers (certificateRows delay vector refutation rooms net) (clausesOf (numbersFor net (suc delay)))
+      Answers (certificateRows delay vector refutation rooms circuit) (clausesOf (numbersFor circuit (suc delay)))
       (clausesOf refutation) answer
   pub leaves : answer ≡ Passes →
-      Meets (accepted net delay vector rooms) (leaving Passes values times pairs formula propagation)
+      Meets (accepted circuit delay vector rooms) (leaving Passes values times pairs formula propagation)
   pub rooms-are : roomsOf values times pairs formula propagation ≡ rooms

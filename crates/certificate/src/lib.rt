@@ -9,8 +9,7 @@ use settle::Settled;
 ghost use mathlib.Core.Path.{_≡_};
 ghost use lib.ListN.{length};
 ghost use Rattle.netlist.specs.Holds.{Holds};
-ghost use Rattle.netlist.specs.File.{netlistAt, netlistOf};
-ghost use Rattle.settle.specs.Settling.{atZero};
+ghost use Rattle.netlist.specs.File.{circuitAt, circuitOf};
 ghost use Rattle.refusal.specs.declared.Checked.the-variants.{Passes};
 ghost use Rattle.certificate.specs.Largest.{Largest};
 ghost use Rattle.certificate.specs.Promise.{Meets, roomsOf, leaving, refused, Judges};
@@ -52,7 +51,7 @@ fn refutes(
     propagation: &mut [u8],
 ) -> Checked
     requires { ⌜ Holds (now file) shape ⌝ }
-    ensures { λ r. ⌜ Refutes (netlistAt (now (file .entry)) shape) target (now (refutation .entry))
+    ensures { λ r. ⌜ Refutes (circuitAt (now (file .entry)) shape) target (now (refutation .entry))
         (length (now (pairs .entry))) (length (now (formula .entry))) (length (now (propagation .entry)))
         r (now (pairs .exit)) (now (formula .exit)) (now (propagation .exit)) ⌝ }
 {
@@ -82,7 +81,7 @@ fn certify(
     propagation: &mut [u8],
 ) -> Checked
     requires { ⌜ Holds (now file) shape ⌝ }
-    ensures { λ r. ⌜ Certified (netlistAt (now (file .entry)) shape) delay (now (vector .entry))
+    ensures { λ r. ⌜ Certified (circuitAt (now (file .entry)) shape) delay (now (vector .entry))
         (now (refutation .entry))
         (roomsOf (now (values .entry)) (now (times .entry)) (now (pairs .entry)) (now (formula .entry))
         (now (propagation .entry)))
@@ -129,7 +128,7 @@ pub fn judge(
         (leaving r (now (values .exit)) (now (times .exit)) (now (pairs .exit)) (now (formula .exit))
         (now (propagation .exit))) ⌝ }
     ensures { λ r. ⌜ (r ≡ Passes →
-        Largest (netlistOf (now (file .entry))) (atZero (netlistOf (now (file .entry)))) delay) ⌝ }
+        Largest (circuitOf (now (file .entry))) delay) ⌝ }
 {
     let opened = netlist::open(file);
     match opened {
