@@ -53,7 +53,8 @@ module _ (circuit : Circuit) (ok : T (valid (circuit .net))) (as-many : Arrives 
           omega arith
 
 -- the same over the very lists of numbers
-pub numbers-accepted : (circuit : Circuit) → T (valid (circuit .net)) → Arrives circuit → (delay : ℕ) (vector : List Bool) →
+pub numbers-accepted : (circuit : Circuit) → T (valid (circuit .net)) → Arrives circuit →
+    (delay : ℕ) (vector : List Bool) →
     length vector ≡ circuit .net .inputs → circuitTime circuit vector ≡ delay → (refutation : List ℤ) →
     Judged (clausesOf (numbersFor circuit (suc delay))) (clausesOf refutation) passes →
     List·Memᴰ [] (clausesOf refutation) → Largest circuit delay

@@ -24,12 +24,14 @@ use Rattle.certificate.proofs.Sound.{sound}
 
 -- the times of a node's pairs
 abbrev pub pairTimes : Circuit → ℕ → ℕ → List ℕ
-pairTimes circuit target = timesAt (circuit .net .inputs) (topOf circuit) (circuit .net .outputs) target (circuit .net .gates)
+pairTimes circuit target = timesAt (circuit .net .inputs) (topOf circuit) (circuit .net .outputs) target
+    (circuit .net .gates)
 
 module _ (circuit : Circuit) (ok : T (valid (circuit .net))) (as-many : Arrives circuit)
     (vector : List Bool) (as-long : length vector ≡ circuit .net .inputs) (target : ℕ) where
   -- the facts that demand 3 rests on
-  known : Known (circuit .net .inputs) (nodeCount (circuit .net)) (nodes (circuit .net)) (valueOf (circuit .net) vector) (timeOf circuit vector)
+  known : Known (circuit .net .inputs) (nodeCount (circuit .net)) (nodes (circuit .net))
+      (valueOf (circuit .net) vector) (timeOf circuit vector)
       (topOf circuit) (pairTimes circuit target) (circuit .net .outputs) target
   known =
       record {
@@ -44,9 +46,11 @@ module _ (circuit : Circuit) (ok : T (valid (circuit .net))) (as-many : Arrives 
   assignment zero = false
   assignment (suc n) =
       let listed : ℕ × ℕ = getD (pairsFor circuit target) (n - nodeCount (circuit .net)) (0, 0) in
-      cond (ltb n (nodeCount (circuit .net))) (valueOf (circuit .net) vector n) (leb (listed .1) (timeOf circuit vector (listed .0)))
+      cond (ltb n (nodeCount (circuit .net))) (valueOf (circuit .net) vector n)
+      (leb (listed .1) (timeOf circuit vector (listed .0)))
 
-  assignment-node : (n : ℕ) → n < nodeCount (circuit .net) → assignment (nodeVariable n) ≡ valueOf (circuit .net) vector n
+  assignment-node : (n : ℕ) → n < nodeCount (circuit .net) →
+      assignment (nodeVariable n) ≡ valueOf (circuit .net) vector n
   unfolding assignment
   assignment-node n h = rw (is-true (ltb n (nodeCount (circuit .net))) (lt→ltb n (nodeCount (circuit .net)) h))
 

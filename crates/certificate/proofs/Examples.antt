@@ -102,7 +102,8 @@ judgement-exists file delay vector refutation rooms =
         in
         let few = pairs-fit circuit (suc delay) (rooms .pairs) (rooms .formula) (p .building) in
         let well =
-        numbers-well-formed circuit (passed-valid file (first-passes (netlistRows file) own e)) (suc delay) (omega arith)
+        numbers-well-formed circuit (passed-valid file (first-passes (netlistRows file) own e)) (suc delay)
+        (omega arith)
         in
         record {
           answer =
@@ -110,9 +111,11 @@ judgement-exists file delay vector refutation rooms =
               (verdict (suc (countsFor circuit (suc delay) .variables)) (clausesOf (numbersFor circuit (suc delay)))
               (clausesOf refutation));
           answers =
-              judged-answer (suc (countsFor circuit (suc delay) .variables)) (numbersFor circuit (suc delay)) refutation e
+              judged-answer (suc (countsFor circuit (suc delay) .variables)) (numbersFor circuit (suc delay))
+              refutation e
               (formula-within well)
-              (rows-pass (countsFor circuit (suc delay) .variables) refutation (rooms .propagation) (p .testing) .within)
+              (rows-pass (countsFor circuit (suc delay) .variables) refutation (rooms .propagation) (p .testing)
+              .within)
               refl;
           meets = itself;
         }

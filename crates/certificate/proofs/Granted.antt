@@ -55,12 +55,14 @@ judged-passes {file} {delay} {vector} {refutation} {rooms} d e =
     (sym (d .meets .answer-is) ∙ e))
 
 -- of a valid netlist: the rows and the refutation passed, so the delay is the largest settling time
-pub certificate-largest : (circuit : Circuit) → T (valid (circuit .net)) → Arrives circuit → (delay : ℕ) (vector : List ℕ) (refutation : List ℤ)
+pub certificate-largest : (circuit : Circuit) → T (valid (circuit .net)) → Arrives circuit →
+    (delay : ℕ) (vector : List ℕ) (refutation : List ℤ)
     (rooms : Rooms) → checked (certificateRows delay vector refutation rooms circuit) ≡ Passes →
     Judged (clausesOf (numbersFor circuit (suc delay))) (clausesOf refutation) passes → Largest circuit delay
 certificate-largest circuit ok as-many delay vector refutation rooms e verdict =
     let p = certificate-passes circuit delay vector refutation rooms e in
-    numbers-accepted circuit ok as-many delay (bits vector) (length-map vector (λ byte. eqb byte 1) ∙ p .long) (p .settles)
+    numbers-accepted circuit ok as-many delay (bits vector) (length-map vector (λ byte. eqb byte 1) ∙ p .long)
+    (p .settles)
     refutation verdict
     (refutation-passes (countsFor circuit (suc delay) .variables) refutation (rooms .propagation) (p .testing))
 

@@ -28,7 +28,8 @@ use Rattle.certificate.proofs.Granted.{opened-valid}
 use Rattle.certificate.proofs.Steps.{formed}
 
 -- of the formula's numbers
-pub demand-of-numbers : (circuit : Circuit) → T (valid (circuit .net)) → Arrives circuit → (target : ℕ) (vector : List Bool) →
+pub demand-of-numbers : (circuit : Circuit) → T (valid (circuit .net)) → Arrives circuit →
+    (target : ℕ) (vector : List Bool) →
     length vector ≡ circuit .net .inputs →
     Completes (circuit .net) vector (clausesOf (numbersFor circuit target)) ↔ T (someLate circuit vector target)
 demand-of-numbers circuit ok as-many target vector as-long =
@@ -75,4 +76,5 @@ demand-of-build file target pairsRoom formulaRoom counts e vector as-long =
     (λ (numbers : List ℤ).
     Completes (circuitOf file .net) vector (clausesOf numbers)
     ↔ T (someLate (circuitOf file) vector target))
-    (sym (front .numbers-are)) (demand-of-numbers (circuitOf file) (opened .0) (zero-arrives (netlistOf file)) target vector as-long)
+    (sym (front .numbers-are))
+    (demand-of-numbers (circuitOf file) (opened .0) (zero-arrives (netlistOf file)) target vector as-long)

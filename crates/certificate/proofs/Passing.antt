@@ -25,15 +25,17 @@ use Rattle.formula.specs.Promise.{countsFor, buildingRows}
 use Rattle.certificate.specs.Promise.{Rooms, witnessRow, refutingRows, certificateRows}
 
 -- what the rows of a certificate call say where they pass
-pub record Passing (circuit : Circuit) (delay : ℕ) (vector : List ℕ) (refutation : List ℤ) (rooms : Rooms) : Type 0 where
-  pub long : length vector ≡ circuit .net .inputs
-  pub settles : circuitTime circuit (bits vector) ≡ delay
-  pub building : checked (buildingRows circuit (suc delay) (rooms .pairs) (rooms .formula)) ≡ Passes
-  pub testing :
-      checked (refutationRows (countsFor circuit (suc delay) .variables) refutation (rooms .propagation)) ≡ Passes
+pub record Passing (circuit : Circuit) (delay : ℕ) (vector : List ℕ) (refutation : List ℤ) (rooms : Rooms) : Type 0
+  where
+    pub long : length vector ≡ circuit .net .inputs
+    pub settles : circuitTime circuit (bits vector) ≡ delay
+    pub building : checked (buildingRows circuit (suc delay) (rooms .pairs) (rooms .formula)) ≡ Passes
+    pub testing :
+        checked (refutationRows (countsFor circuit (suc delay) .variables) refutation (rooms .propagation)) ≡ Passes
 
 pub certificate-passes : (circuit : Circuit) (delay : ℕ) (vector : List ℕ) (refutation : List ℤ) (rooms : Rooms) →
-    checked (certificateRows delay vector refutation rooms circuit) ≡ Passes → Passing circuit delay vector refutation rooms
+    checked (certificateRows delay vector refutation rooms circuit) ≡ Passes → Passing circuit delay vector refutation
+    rooms
 certificate-passes circuit delay vector refutation rooms e =
     let evaluating = evaluationRows circuit vector (rooms .values) (rooms .times) in
     let refuting =

@@ -100,7 +100,8 @@ formed {circuit} {target} pairsRoom formulaRoom {answer} {counts} {formula} ok a
       well-formed =
           subst (WellFormed (counts .variables)) (sym front)
           (subst (λ (k : ℕ). WellFormed k (numbersFor circuit target)) (sym v)
-          (numbers-well-formed circuit ok target (omega (arith, pairs-fit circuit target pairsRoom formulaRoom (b .0)))));
+          (numbers-well-formed circuit ok target
+          (omega (arith, pairs-fit circuit target pairsRoom formulaRoom (b .0)))));
     }
 
 module _ {circuit : Circuit} {target : ℕ} {refutation : List ℤ} {pairsRoom formulaRoom propagationRoom : ℕ}
@@ -111,7 +112,8 @@ module _ {circuit : Circuit} {target : ℕ} {refutation : List ℤ} {pairsRoom f
       formula ≡ buildingOf circuit target pairsRoom formulaRoom .formula →
       length pairs ≡ pairsRoom → length formula ≡ formulaRoom → length propagation ≡ propagationRoom →
       answer ≡ Unbuilt refusal →
-      Refutes circuit target refutation pairsRoom formulaRoom propagationRoom (Refused refusal) pairs formula propagation
+      Refutes circuit target refutation pairsRoom formulaRoom propagationRoom (Refused refusal) pairs formula
+      propagation
   refutes-refused {refusal} a p f l m n e =
       record {
         answers =
@@ -146,7 +148,8 @@ module _ {circuit : Circuit} {target : ℕ} {refutation : List ℤ} {pairsRoom f
             (passed-first (buildingRows circuit target pairsRoom formulaRoom)
             (refutationRows (countsFor circuit target .variables) refutation propagationRoom)
             (answer-counts circuit target pairsRoom formulaRoom a e .0)))
-            (subst (λ (k : ℕ). Tested k (numbersFor circuit target) refutation propagationRoom tested) (b .variables-are)
+            (subst (λ (k : ℕ). Tested k (numbersFor circuit target) refutation propagationRoom tested)
+            (b .variables-are)
             (subst (λ (zs : List ℤ). Tested (counts .variables) zs refutation propagationRoom tested)
             (b .numbers-are) t));
         pairs-are = p;

@@ -124,7 +124,8 @@ accepted circuit delay vector rooms =
 
 -- what a check comes to
 abbrev pub judgementOf : Circuit → ℕ → List ℕ → Rooms → Checked → Judgement
-judgementOf circuit delay vector rooms answer = unlessRefused answer (refused rooms) (accepted circuit delay vector rooms)
+judgementOf circuit delay vector rooms answer = unlessRefused answer (refused rooms)
+    (accepted circuit delay vector rooms)
 
 -- of any bytes, any delay, any vector and any refutation: the first row before 14 that refuses; or else 14 STEP, or
 -- acceptance, by the order-free verdict on the refutation against the very numbers of the formula for D+1

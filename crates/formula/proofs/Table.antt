@@ -9,7 +9,18 @@ use lib.ListN.{length, getD, length-replicate}
 use lib.Seq.{take-all}
 use Rattle.netlist.specs.declared.Shape.{Shape}
 use Rattle.netlist.specs.Netlist.{nodes}
-use Rattle.netlist.specs.File.{firstAt, countAt, driverAt, delayAt, outputAt, gateAt, pinAt, cellAt, netlistAt, circuitAt}
+use Rattle.netlist.specs.File.{
+  firstAt,
+  countAt,
+  driverAt,
+  delayAt,
+  outputAt,
+  gateAt,
+  pinAt,
+  cellAt,
+  netlistAt,
+  circuitAt,
+}
 use Rattle.netlist.specs.Holds.{Holds}
 use Rattle.netlist.proofs.Entries.{node-count, node-has, pin-has, output-has}
 use Rattle.netlist.proofs.GateRead.{gate-takes}

@@ -115,4 +115,5 @@ pairVariable circuit target f t = suc (nodeCount (circuit .net) + placeOf f t (p
 unfoldable pub formulaFor : Circuit → ℕ → List (List Literal)
 formulaFor circuit target =
     formula (circuit .net .inputs) (topOf circuit) nodeVariable (pairVariable circuit target) (nodes (circuit .net))
-    (timesAt (circuit .net .inputs) (topOf circuit) (circuit .net .outputs) target (circuit .net .gates)) (circuit .net .outputs) target
+    (timesAt (circuit .net .inputs) (topOf circuit) (circuit .net .outputs) target (circuit .net .gates))
+    (circuit .net .outputs) target

@@ -101,28 +101,34 @@ place-at f t (x ∷ l) d (List·Memᴰ·tail m) = go (eqb (x .0) f && eqb (x .1)
 
 module _ (circuit : Circuit) (ok : T (valid (circuit .net))) (target : ℕ) where
   pub closed-for : Closed (circuit .net .inputs) (nodes (circuit .net)) (topOf circuit)
-      (timesAt (circuit .net .inputs) (topOf circuit) (circuit .net .outputs) target (circuit .net .gates)) (circuit .net .outputs) target
+      (timesAt (circuit .net .inputs) (topOf circuit) (circuit .net .outputs) target (circuit .net .gates))
+      (circuit .net .outputs) target
   closed-for =
-      closed (circuit .net .inputs) (topOf circuit) (circuit .net .outputs) target (circuit .net .gates) (valid-gates (circuit .net) ok)
+      closed (circuit .net .inputs) (topOf circuit) (circuit .net .outputs) target (circuit .net .gates)
+      (valid-gates (circuit .net) ok)
 
   -- each node's times are in the list of the pairs
   pub listed-for : (f t : ℕ) →
-      List·Memᴰ t (timesAt (circuit .net .inputs) (topOf circuit) (circuit .net .outputs) target (circuit .net .gates) f) →
+      List·Memᴰ t
+      (timesAt (circuit .net .inputs) (topOf circuit) (circuit .net .outputs) target (circuit .net .gates) f) →
       List·Memᴰ (f, t) (pairsFor circuit target)
   unfolding pairsFor
   listed-for f t m =
-      time-listed (circuit .net .inputs) (topOf circuit) (circuit .net .outputs) target (circuit .net .gates) (valid-gates (circuit .net) ok)
+      time-listed (circuit .net .inputs) (topOf circuit) (circuit .net .outputs) target (circuit .net .gates)
+      (valid-gates (circuit .net) ok)
       (valid-outputs (circuit .net) ok) f t m
 
   -- at a place below the length
   pub placed-for : (f t : ℕ) →
-      List·Memᴰ t (timesAt (circuit .net .inputs) (topOf circuit) (circuit .net .outputs) target (circuit .net .gates) f) →
+      List·Memᴰ t
+      (timesAt (circuit .net .inputs) (topOf circuit) (circuit .net .outputs) target (circuit .net .gates) f) →
       placeOf f t (pairsFor circuit target) < length (pairsFor circuit target)
   placed-for f t m = place-below f t (pairsFor circuit target) (listed-for f t m)
 
   -- that is its own
   pub place-for : (f t : ℕ) →
-      List·Memᴰ t (timesAt (circuit .net .inputs) (topOf circuit) (circuit .net .outputs) target (circuit .net .gates) f) →
+      List·Memᴰ t
+      (timesAt (circuit .net .inputs) (topOf circuit) (circuit .net .outputs) target (circuit .net .gates) f) →
       getD (pairsFor circuit target) (placeOf f t (pairsFor circuit target)) (0, 0) ≡ (f, t)
   place-for f t m = place-at f t (pairsFor circuit target) (0, 0) (listed-for f t m)
 
@@ -132,14 +138,17 @@ module _ (circuit : Circuit) (ok : T (valid (circuit .net))) (target : ℕ) wher
   unfolding pairsFor
   pair-for f t m =
       let a =
-      pairs-asked (circuit .net .inputs) (topOf circuit) (circuit .net .outputs) target (circuit .net .gates) (valid-gates (circuit .net) ok) (f, t) m
+      pairs-asked (circuit .net .inputs) (topOf circuit) (circuit .net .outputs) target (circuit .net .gates)
+      (valid-gates (circuit .net) ok) (f, t) m
       in
       let w =
       pair-facts (circuit .net .inputs) (topOf circuit) (circuit .net .outputs) target f t
-      (member-is-pair (circuit .net .inputs) (topOf circuit) (circuit .net .outputs) target (nodes (circuit .net)) f t a)
+      (member-is-pair (circuit .net .inputs) (topOf circuit) (circuit .net .outputs) target (nodes (circuit .net)) f t
+      a)
       in (
         w .0,
-        asked-below (circuit .net .inputs) (topOf circuit) (circuit .net .outputs) target (circuit .net .gates) (valid-gates (circuit .net) ok)
+        asked-below (circuit .net .inputs) (topOf circuit) (circuit .net .outputs) target (circuit .net .gates)
+            (valid-gates (circuit .net) ok)
             (valid-outputs (circuit .net) ok) f t a,
         w .1,
         w .2,
@@ -147,12 +156,16 @@ module _ (circuit : Circuit) (ok : T (valid (circuit .net))) (target : ℕ) wher
 
   -- and back: a pair of the list is one of its node's times
   pub time-for : (f t : ℕ) → List·Memᴰ (f, t) (pairsFor circuit target) →
-      List·Memᴰ t (timesAt (circuit .net .inputs) (topOf circuit) (circuit .net .outputs) target (circuit .net .gates) f)
+      List·Memᴰ t
+      (timesAt (circuit .net .inputs) (topOf circuit) (circuit .net .outputs) target (circuit .net .gates) f)
   unfolding pairsFor
   time-for f t m =
-      asked-time (circuit .net .inputs) (topOf circuit) (circuit .net .outputs) target (circuit .net .gates) (valid-gates (circuit .net) ok) f t
-      (least-set (circuit .net .inputs) (topOf circuit) (circuit .net .outputs) target (circuit .net .gates) (valid-gates (circuit .net) ok) f t .1
-      (pairs-asked (circuit .net .inputs) (topOf circuit) (circuit .net .outputs) target (circuit .net .gates) (valid-gates (circuit .net) ok) (f, t) m))
+      asked-time (circuit .net .inputs) (topOf circuit) (circuit .net .outputs) target (circuit .net .gates)
+      (valid-gates (circuit .net) ok) f t
+      (least-set (circuit .net .inputs) (topOf circuit) (circuit .net .outputs) target (circuit .net .gates)
+      (valid-gates (circuit .net) ok) f t .1
+      (pairs-asked (circuit .net .inputs) (topOf circuit) (circuit .net .outputs) target (circuit .net .gates)
+      (valid-gates (circuit .net) ok) (f, t) m))
 
   -- an output's pair at the target is in the list
   pub output-for : (o : ℕ) → List·Memᴰ o (circuit .net .outputs) → circuit .net .inputs ≤ o → 0 < target →
@@ -161,7 +174,8 @@ module _ (circuit : Circuit) (ok : T (valid (circuit .net))) (target : ℕ) wher
 
   -- and, with a pair, the pair of each driver of its gate
   pub driver-for : (f : ℕ) (g : Cell) → List·Memᴰ (f, g) (nodes (circuit .net)) → (t : ℕ) →
-      List·Memᴰ (f, t) (pairsFor circuit target) → (p : Pin) → List·Memᴰ p (g .pins) → circuit .net .inputs ≤ p .driver →
+      List·Memᴰ (f, t) (pairsFor circuit target) → (p : Pin) → List·Memᴰ p (g .pins) → circuit .net .inputs ≤ p
+      .driver →
       0 < t - p .delay → t - p .delay ≤ topOf circuit (p .driver) →
       List·Memᴰ (p .driver, t - p .delay) (pairsFor circuit target)
   driver-for f g m t i p j a b c =

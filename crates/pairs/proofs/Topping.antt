@@ -105,13 +105,15 @@ module _ {file : List ℕ} {shape : Shape} (holds : Holds file shape) where
       let cell = cellAt file shape i in
       let m = node-has file shape i h in
       e
-      ∙ last-cong (readyAt (λ node. getD (take (shape .inputs + i) tops) node 0)) (readyAt (topOf (circuitAt file shape)))
+      ∙ last-cong (readyAt (λ node. getD (take (shape .inputs + i) tops) node 0))
+      (readyAt (topOf (circuitAt file shape)))
       (cell .pins)
       (λ p j.
       let l = laid net (holds .valid) .below node cell m p j in
       ap (λ (n : ℕ). n + p .delay) (getD-take node tops (p .driver) 0 l ∙ b .is (p .driver) l))
       ∙ sym
-      (runs (circuitAt file shape) (holds .valid) zeros (replicate (net .inputs) false) (length-replicate (net .inputs) false)
+      (runs (circuitAt file shape) (holds .valid) zeros (replicate (net .inputs) false)
+      (length-replicate (net .inputs) false)
       .top-fixed node cell m)
 
   -- and is small

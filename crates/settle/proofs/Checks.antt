@@ -174,7 +174,8 @@ pub vector-passes : (circuit : Circuit) (vector : List ℕ) (valuesRoom timesRoo
     checked (evaluationRows circuit vector valuesRoom timesRoom) ≡ Passes → length vector ≡ circuit .net .inputs
 unfolding givenRows
 vector-passes circuit vector valuesRoom timesRoom e =
-    let rest : List Row = roomRow (nodeCount (circuit .net)) valuesRoom ∷ roomRow (nodeCount (circuit .net)) timesRoom ∷ [] in
+    let rest : List Row = roomRow (nodeCount (circuit .net)) valuesRoom ∷ roomRow (nodeCount (circuit .net)) timesRoom
+    ∷ [] in
     eqb-true _ _
     (not-back (eqb (length vector) (circuit .net .inputs))
     (passed-by (not (eqb (length vector) (circuit .net .inputs))) (Vector (circuit .net .inputs))

@@ -229,7 +229,8 @@ module _ (circuit : Circuit) (v : T (valid (circuit .net))) (e : Arrives circuit
   time-fixed vector n cell m =
       grow-fixed 0 (timeStep (valueOf (circuit .net) vector))
       (λ cell f h q.
-      settles-cong (λ (p : Pin). valueOf (circuit .net) vector (p .driver)) (λ (p : Pin). valueOf (circuit .net) vector (p .driver))
+      settles-cong (λ (p : Pin). valueOf (circuit .net) vector (p .driver))
+      (λ (p : Pin). valueOf (circuit .net) vector (p .driver))
       (readyAt f) (readyAt h) (cell .kind) (cell .pins) (λ p i. refl) (λ p i. ap (λ t. t + p .delay) (q p i)))
       (circuit .arrivals) (circuit .net .gates) (circuit .net .inputs) (sym e) (valid-gates (circuit .net) v) n cell m
 
@@ -241,7 +242,8 @@ module _ (circuit : Circuit) (v : T (valid (circuit .net))) (e : Arrives circuit
       let a = time-fixed vector n cell m in
       let b = top-fixed n cell m in
       let c =
-      settles-last (λ (p : Pin). valueOf (circuit .net) vector (p .driver)) (readyAt (timeOf circuit vector)) (cell .kind)
+      settles-last (λ (p : Pin). valueOf (circuit .net) vector (p .driver)) (readyAt (timeOf circuit vector))
+      (cell .kind)
       (cell .pins)
       in
       let d =
@@ -252,7 +254,8 @@ module _ (circuit : Circuit) (v : T (valid (circuit .net))) (e : Arrives circuit
 
   -- the fixpoint equations, and times against tops
   pub runs : (vector : List Bool) → length vector ≡ circuit .net .inputs →
-      Runs (circuit .net .inputs) (nodeCount (circuit .net)) (nodes (circuit .net)) (valueOf (circuit .net) vector) (timeOf circuit vector)
+      Runs (circuit .net .inputs) (nodeCount (circuit .net)) (nodes (circuit .net)) (valueOf (circuit .net) vector)
+      (timeOf circuit vector)
       (topOf circuit)
   runs vector f =
       record {
@@ -264,7 +267,8 @@ module _ (circuit : Circuit) (v : T (valid (circuit .net))) (e : Arrives circuit
       }
 
   -- a top grows by at most 999 a gate
-  top-grows : (late : ℕ) → ((n : ℕ) → n < circuit .net .inputs → getD (circuit .arrivals) n 0 ≤ late) → (n : ℕ) → n < nodeCount (circuit .net) →
+  top-grows : (late : ℕ) → ((n : ℕ) → n < circuit .net .inputs → getD (circuit .arrivals) n 0 ≤ late) → (n : ℕ) →
+      n < nodeCount (circuit .net) →
       topOf circuit n ≤ late + (suc n - circuit .net .inputs) * 999
   top-grows late inputs =
       by-nodes (circuit .net) v (λ n. topOf circuit n ≤ late + (suc n - circuit .net .inputs) * 999)
@@ -287,7 +291,8 @@ module _ (circuit : Circuit) (v : T (valid (circuit .net))) (e : Arrives circuit
       topOf circuit n ≤ late + 447552
   tops-within late inputs n = go (decide (ltb n (nodeCount (circuit .net))))
     where
-      go : T (ltb n (nodeCount (circuit .net))) ⊎ (T (ltb n (nodeCount (circuit .net))) → ⊥) → topOf circuit n ≤ late + 447552
+      go : T (ltb n (nodeCount (circuit .net))) ⊎ (T (ltb n (nodeCount (circuit .net))) → ⊥) →
+          topOf circuit n ≤ late + 447552
       go (inl t) =
           let h = ltb→lt n (nodeCount (circuit .net)) t in
           let a = top-grows late inputs n h in
@@ -300,7 +305,8 @@ module _ (circuit : Circuit) (v : T (valid (circuit .net))) (e : Arrives circuit
           omega arith
 
   -- nor any time
-  pub times-within : (late : ℕ) → ((n : ℕ) → n < circuit .net .inputs → getD (circuit .arrivals) n 0 ≤ late) → (vector : List Bool) →
+  pub times-within : (late : ℕ) → ((n : ℕ) → n < circuit .net .inputs → getD (circuit .arrivals) n 0 ≤ late) →
+      (vector : List Bool) →
       (n : ℕ) → timeOf circuit vector n ≤ late + 447552
   times-within late inputs vector n = go (decide (ltb n (nodeCount (circuit .net))))
     where
