@@ -18,9 +18,9 @@
 #include <stdlib.h>
 #include <string.h>
 
-enum { EVALUATE = 1, BUILD, CHECK, JUDGE, SHORTEN };
+enum { EVALUATE = 1, BUILD, CHECK, JUDGE, SHORTEN, WALK };
 enum { NUMBER = 1, BYTES, WORDS, LENT_BYTES, LENT_WORDS };
-enum { MOST_ARGUMENTS = 16, MOST_FIELDS = 8 };
+enum { MOST_ARGUMENTS = 16, MOST_FIELDS = 8, MOST_NODES = 512, MOST_INPUTS = 64 };
 enum { REQUEST_DOES_NOT_READ = 2, ANSWER_NOT_WRITTEN = 3, MEMORY_IS_SHORT = 4 };
 
 typedef struct {
@@ -154,6 +154,33 @@ static void leave_out_steps(void)
     field(shorten(A_NUMBER(0), SOME_SIGNED(1), SOME_SIGNED(2), arguments[3].start));
 }
 
+/* Over the library: of all vectors of so many inputs, input 0 most significant and 0 before 1, the first that settles
+ * latest, or the first that settles at a given time or later. */
+static void walk(void)
+{
+    static uint8_t vector[MOST_INPUTS], values[MOST_NODES];
+    static uint32_t times[MOST_NODES];
+    buzzlumen_evaluated answer = {0, 0, 0}, best = {0, 0, 0};
+    take_arguments(4);
+    size_t inputs = arguments[3].length;
+    if (inputs > MOST_INPUTS - 1)
+        exit(REQUEST_DOES_NOT_READ);
+    for (uint64_t each = 0; each >> inputs == 0 && answer.number == 0; each++) {
+        for (size_t i = 0; i < inputs; i++)
+            vector[i] = each >> (inputs - 1 - i) & 1;
+        answer = buzzlumen_evaluate(SOME_BYTES(0), vector, inputs, values, MOST_NODES, times, MOST_NODES);
+        if (each == 0 || answer.time > best.time) {
+            best = answer;
+            memcpy(arguments[3].start, vector, inputs);
+        }
+        if (best.time >= A_NUMBER(1) && A_NUMBER(2))
+            break;
+    }
+    field(answer.number);
+    field(answer.place);
+    field(best.time);
+}
+
 int main(void)
 {
     uint32_t function;
@@ -164,6 +191,7 @@ int main(void)
         case CHECK: check(); break;
         case JUDGE: judge(); break;
         case SHORTEN: leave_out_steps(); break;
+        case WALK: walk(); break;
         default: return REQUEST_DOES_NOT_READ;
         }
         give_answer();

@@ -1,0 +1,3 @@
+"""The command `buzzlumen`: questions about a circuit's delay, answered by the proved library."""
+
+__version__ = "1.0"

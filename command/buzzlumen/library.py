@@ -18,12 +18,12 @@ import sys
 import tempfile
 from collections import namedtuple
 
+from .refusals import ROOM, VECTOR, in_words
 from .trouble import OfTheMachine, Refused
 
-EVALUATE, BUILD, CHECK, JUDGE, SHORTEN = range(1, 6)
+EVALUATE, BUILD, CHECK, JUDGE, SHORTEN, WALK = range(1, 7)
 NUMBER, BYTES, WORDS, LENT_BYTES, LENT_WORDS = range(1, 6)
 
-ROOM = 9
 MOST_NODES = 512
 MOST_PAIR_NUMBERS = 131072
 MOST_VARIABLES = 100000
@@ -41,11 +41,11 @@ BUILT = "target/command/host"
 
 
 class Refusal(Refused):
-    """The library's refusal: its number, its place, and what call it was."""
+    """The library's refusal: its number and place, and its cause in words once someone knows it."""
 
     def __init__(self, number, place):
         super().__init__(f"refused {number} {place}")
-        self.number, self.place = number, place
+        self.number, self.place, self.words = number, place, in_words(number, place)
 
 
 # The program
@@ -233,6 +233,14 @@ class Library:
         accept(refusal, place)
         return Settled(time, values, times)
 
+    def refusal_of(self, netlist):
+        """The refusal of bytes that are no netlist, or None: a vector without a value is refused after all of those."""
+        try:
+            self.evaluate(netlist, b"")
+        except Refusal as refusal:
+            return refusal if refusal.number != VECTOR else None
+        return None
+
     def build(self, netlist, target):
         """The formula for a target."""
         room = FIRST_FORMULA_ROOM
@@ -273,6 +281,13 @@ class Library:
         arguments = [number(variables), given_words(formula), given_words(refutation), lent_words(len(refutation))]
         (length,), (shorter,) = self.call(SHORTEN, arguments, "i")
         return shorter[:length] if length else refutation
+
+    def walk(self, netlist, inputs, enough=None):
+        """Of all vectors in order, 0 before 1, the first that settles latest, or at `enough` or later: time, vector."""
+        arguments = [given_bytes(netlist), number(enough or 0), number(enough is not None), lent_bytes(inputs)]
+        (refusal, place, time), (vector,) = self.call(WALK, arguments, "B")
+        accept(refusal, place)
+        return time, bytes(vector)
 
 
 def accept(refusal, place):
