@@ -8,6 +8,9 @@
  * An answer is the count of its fields (4 bytes), the fields (8 bytes each), then each lent slice as its length
  * (8 bytes) and its elements. All numbers are little endian. Arguments stand in the header's order, and so do fields.
  *
+ * Beside the library's four functions there are three for a search: a refutation without the steps that it does not
+ * need, a walk over all vectors, and a formula written to a file as DIMACS CNF.
+ *
  * One process answers any number of requests and ends with its input: 0 there, 2 where a request does not read, 3 where
  * the answer cannot be written, 4 where memory is short. Assumes a little endian machine.
  */
@@ -18,7 +21,7 @@
 #include <stdlib.h>
 #include <string.h>
 
-enum { EVALUATE = 1, BUILD, CHECK, JUDGE, SHORTEN, WALK };
+enum { EVALUATE = 1, BUILD, CHECK, JUDGE, SHORTEN, WALK, WRITE_FORMULA };
 enum { NUMBER = 1, BYTES, WORDS, LENT_BYTES, LENT_WORDS };
 enum { MOST_ARGUMENTS = 16, MOST_FIELDS = 8, MOST_NODES = 512, MOST_INPUTS = 64 };
 enum { REQUEST_DOES_NOT_READ = 2, ANSWER_NOT_WRITTEN = 3, MEMORY_IS_SHORT = 4 };
@@ -147,14 +150,14 @@ static void judge(void)
     field(answer.place);
 }
 
-/* Not the library's: a refutation without the steps that it does not need, or 0 numbers where there is none. */
+/* A refutation without the steps that it does not need; 0 numbers where it does not hold. */
 static void leave_out_steps(void)
 {
     take_arguments(4);
     field(shorten(A_NUMBER(0), SOME_SIGNED(1), SOME_SIGNED(2), arguments[3].start));
 }
 
-/* Over the library: of all vectors of so many inputs, input 0 most significant and 0 before 1, the first that settles
+/* Of all vectors of so many inputs, input 0 most significant and 0 before 1, the first that settles
  * latest, or the first that settles at a given time or later. */
 static void walk(void)
 {
@@ -181,6 +184,63 @@ static void walk(void)
     field(best.time);
 }
 
+/* A number and what stands behind it as text; gives the place behind. */
+static char *write_number(char *at, int32_t number, char behind)
+{
+    char digits[12];
+    size_t count = 0;
+    uint32_t rest = number < 0 ? 0 - (uint32_t)number : (uint32_t)number;
+    do {
+        digits[count++] = (char)('0' + rest % 10);
+        rest /= 10;
+    } while (rest != 0);
+    if (number < 0)
+        *at++ = '-';
+    while (count != 0)
+        *at++ = digits[--count];
+    *at++ = behind;
+    return at;
+}
+
+/* Clauses to a file, one a line; 0 where the file takes them. */
+static int write_clauses(FILE *file, const int32_t *numbers, size_t length)
+{
+    enum { BLOCK = 65536, LONGEST = 12 };
+    static char text[BLOCK + LONGEST];
+    char *at = text;
+    for (size_t i = 0; i < length; i++) {
+        at = write_number(at, numbers[i], numbers[i] == 0 ? '\n' : ' ');
+        if (at - text >= BLOCK || i + 1 == length) {
+            size_t count = (size_t)(at - text);
+            if (fwrite(text, 1, count, file) != count)
+                return -1;
+            at = text;
+        }
+    }
+    return 0;
+}
+
+/* The formula for a target, built in the lent room, to the file of a name (its bytes end in 0) as DIMACS CNF. The last
+ * field is 0 where the file took it all. */
+static void write_formula(void)
+{
+    take_arguments(5);
+    buzzlumen_built answer =
+        buzzlumen_build(SOME_BYTES(0), A_NUMBER(1), SOME_WORDS(3), SOME_SIGNED(4));
+    int wrong = 0;
+    if (answer.number == 0) {
+        FILE *file = fopen(arguments[2].start, "w");
+        wrong = file == NULL ||
+                fprintf(file, "p cnf %u %llu\n", answer.variables, (unsigned long long)answer.clauses) < 0 ||
+                write_clauses(file, arguments[4].start, answer.numbers) != 0;
+        wrong |= file != NULL && fclose(file) != 0;
+    }
+    arguments[3].length = arguments[4].length = 0;
+    field(answer.number);
+    field(answer.place);
+    field((uint64_t)wrong);
+}
+
 int main(void)
 {
     uint32_t function;
@@ -192,6 +252,7 @@ int main(void)
         case JUDGE: judge(); break;
         case SHORTEN: leave_out_steps(); break;
         case WALK: walk(); break;
+        case WRITE_FORMULA: write_formula(); break;
         default: return REQUEST_DOES_NOT_READ;
         }
         give_answer();

@@ -4,7 +4,6 @@ import contextlib
 import os
 import stat
 import sys
-import tempfile
 
 from .netlist import looks_like_netlist
 from .trouble import OfTheMachine, Slip
@@ -138,13 +137,14 @@ def write_file(path, data, force=False):
 
 
 def write_beside(path, data, force):
-    """The file under a name of its own in the same folder, with the rights a new file has, then renamed."""
-    handle, made = tempfile.mkstemp(prefix=".buzzlumen-", dir=os.path.dirname(path))
+    """The file under a name of its own in the same folder, with the rights of the one it replaces, then renamed."""
+    made = os.path.join(os.path.dirname(path), ".buzzlumen-" + os.urandom(8).hex())
     try:
-        with os.fdopen(handle, "wb") as file:
+        with open(made, "xb") as file:
             file.write(data)
             file.flush()
-            os.fchmod(file.fileno(), rights_for(path))
+            if os.path.exists(path):
+                os.fchmod(file.fileno(), stat.S_IMODE(os.stat(path).st_mode))
         put_in_place(made, path, force)
     except BaseException:
         with contextlib.suppress(OSError):
@@ -164,12 +164,3 @@ def put_in_place(made, path, force):
             if os.path.lexists(path):
                 raise FileExistsError from None
     os.replace(made, path)
-
-
-def rights_for(path):
-    """The rights of the file that is replaced, or of a new one."""
-    with contextlib.suppress(OSError):
-        return stat.S_IMODE(os.stat(path).st_mode)
-    mask = os.umask(0)
-    os.umask(mask)
-    return 0o666 & ~mask

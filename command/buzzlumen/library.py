@@ -9,32 +9,31 @@ refusal ROOM.
 
 import array
 import os
-import pathlib
-import platform
-import shutil
 import struct
 import subprocess
 import sys
-import tempfile
 from collections import namedtuple
 
+from .machine import folder_for_a_while, on_path
 from .refusals import ROOM, VECTOR, in_words
 from .trouble import OfTheMachine, Refused
 
-EVALUATE, BUILD, CHECK, JUDGE, SHORTEN, WALK = range(1, 7)
+EVALUATE, BUILD, CHECK, JUDGE, SHORTEN, WALK, WRITE_FORMULA = range(1, 8)
 NUMBER, BYTES, WORDS, LENT_BYTES, LENT_WORDS = range(1, 6)
 
 MOST_NODES = 512
 MOST_PAIR_NUMBERS = 131072
 MOST_VARIABLES = 100000
-FIRST_FORMULA_ROOM = 65536
+FIRST_FORMULA_ROOM = 2 ** 18
 
 # What the calls give. Lists of numbers are arrays of 32-bit numbers.
 Settled = namedtuple("Settled", "time values times")
 Built = namedtuple("Built", "variables clauses formula pairs")
 
-TREE = pathlib.Path(__file__).resolve().parents[2]
-INSTALLED = (pathlib.Path(__file__).resolve().parents[1] / "host", pathlib.Path("/usr/lib/buzzlumen/host"))
+PACKAGE = os.path.dirname(os.path.realpath(__file__))
+BESIDE = os.path.dirname(PACKAGE)
+TREE = os.path.dirname(BESIDE)
+INSTALLED = (os.path.join(BESIDE, "host"), "/usr/lib/buzzlumen/host")
 SOURCES = ("command/host.c", "command/shorten.c", "command/shorten.h", "include/buzzlumen.h")
 ARCHIVE = "target/staticlib/libbuzzlumen.a"
 BUILT = "target/command/host"
@@ -53,49 +52,55 @@ class Refusal(Refused):
 
 def is_native():
     """Whether this machine runs x86-64 code itself."""
-    return platform.machine() in ("x86_64", "amd64", "AMD64")
+    return os.uname().machine in ("x86_64", "amd64")
 
 
 def runner():
     """What stands before the program's name to run it here."""
     if is_native():
         return []
-    if shutil.which("qemu-x86_64") is None:
+    if not on_path("qemu-x86_64"):
         raise OfTheMachine("the library is x86-64 code and qemu-x86_64 is not here: install Debian's qemu-user")
     return ["qemu-x86_64"]
 
 
 def compiler():
     """The C compiler that makes x86-64 code."""
-    command, packages = (["gcc"], "gcc and libc6-dev")
+    command, packages = ["gcc"], "gcc and libc6-dev"
     if not is_native():
-        command, packages = (["x86_64-linux-gnu-gcc", "-static"], "gcc-x86-64-linux-gnu and libc6-dev-amd64-cross")
-    if shutil.which(command[0]) is None:
-        raise OfTheMachine(f"{command[0]} is not here to build the host: install Debian's {packages}")
+        command, packages = ["x86_64-linux-gnu-gcc", "-static"], "gcc-x86-64-linux-gnu and libc6-dev-amd64-cross"
+    if not on_path(command[0]):
+        raise OfTheMachine(f"{command[0]} is not here to build the host program: install Debian's {packages}")
     return command
 
 
 def host_program():
-    """Where the program stands: as the variable says, in a package, or built in the tree."""
+    """Where the program stands: as the variable says, built in the tree, or in a package."""
     named = os.environ.get("BUZZLUMEN_HOST")
     if named:
-        if not pathlib.Path(named).is_file():
+        if not os.path.isfile(named):
             raise OfTheMachine(f"BUZZLUMEN_HOST names {named}, which is no file")
         return named
-    if (TREE / "command/host.c").is_file():
+    if os.path.isfile(in_tree(SOURCES[0])):
         return built_in_tree()
     for program in INSTALLED:
-        if program.is_file():
+        if os.path.isfile(program):
             return program
-    raise OfTheMachine(f"the host program is not here; looked for {' and '.join(str(path) for path in INSTALLED)}")
+    raise OfTheMachine(f"the host program is not here; looked for {' and '.join(INSTALLED)}")
+
+
+def in_tree(part):
+    """The path of a part of the tree."""
+    return os.path.join(TREE, part)
 
 
 def built_in_tree():
     """The tree's own program, built anew where it is older than its parts."""
-    program, parts = TREE / BUILT, [TREE / part for part in SOURCES + (ARCHIVE,)]
-    if not (TREE / ARCHIVE).is_file():
+    program = in_tree(BUILT)
+    if not os.path.isfile(in_tree(ARCHIVE)):
         raise OfTheMachine(f"the library is not built yet: there is no {ARCHIVE}. Build it by: rt staticlib buzzlumen")
-    if program.is_file() and all(part.stat().st_mtime <= program.stat().st_mtime for part in parts):
+    parts = [in_tree(part) for part in SOURCES + (ARCHIVE,)]
+    if os.path.isfile(program) and all(os.path.getmtime(part) <= os.path.getmtime(program) for part in parts):
         return program
     return build(program)
 
@@ -103,17 +108,17 @@ def built_in_tree():
 def build(program):
     """Build the program beside its place, then put it there in one step."""
     try:
-        program.parent.mkdir(parents=True, exist_ok=True)
-        with tempfile.TemporaryDirectory(dir=program.parent) as folder:
-            made = pathlib.Path(folder) / "host"
-            sources = [TREE / part for part in SOURCES if part.endswith(".c")] + [TREE / ARCHIVE]
-            command = compiler() + ["-O2", "-I", TREE / "include", "-o", made, *sources]
+        os.makedirs(os.path.dirname(program), exist_ok=True)
+        with folder_for_a_while(os.path.dirname(program)) as folder:
+            made = os.path.join(folder, "host")
+            sources = [in_tree(part) for part in SOURCES + (ARCHIVE,) if not part.endswith(".h")]
+            command = compiler() + ["-O2", "-I", in_tree("include"), "-o", made, *sources]
             ended = subprocess.run(command, capture_output=True, text=True, check=False)
             if ended.returncode:
-                raise OfTheMachine(f"the host does not build: {last_line(ended.stderr)}")
+                raise OfTheMachine(f"the host program does not build: {last_line(ended.stderr)}")
             os.replace(made, program)
     except OSError as error:
-        raise OfTheMachine(f"the host cannot be built in {program.parent}: {error.strerror}") from None
+        raise OfTheMachine(f"the host program cannot be built as {program}: {error.strerror}") from None
     return program
 
 
@@ -163,10 +168,12 @@ class Library:
 
     def __init__(self):
         self.process = None
+        # The numbers that the largest formula so far took, and some.
+        self.room = FIRST_FORMULA_ROOM
 
     def start(self):
         """Start the program."""
-        command = [*runner(), str(host_program())]
+        command = [*runner(), host_program()]
         try:
             # A group of its own: an interrupt at the terminal is the command's to handle.
             self.process = subprocess.Popen(command, stdin=subprocess.PIPE, stdout=subprocess.PIPE,
@@ -224,6 +231,16 @@ class Library:
         causes = {4: "memory is short", 127: "it was not found"}
         return OfTheMachine(f"the host program broke off: {causes.get(status, f'status {status}')}")
 
+    def with_room(self, call):
+        """The answer of a call that takes room for a formula, without its number and place; where the room is too
+        small the refusal says how much it must be."""
+        (refusal, place, *fields), lent = call(self.room)
+        if refusal == ROOM and place > self.room:
+            self.room = place + place // 4
+            (refusal, place, *fields), lent = call(self.room)
+        accept(refusal, place)
+        return fields, lent
+
     # The four functions of the library.
 
     def evaluate(self, netlist, vector):
@@ -243,15 +260,8 @@ class Library:
 
     def build(self, netlist, target):
         """The formula for a target."""
-        room = FIRST_FORMULA_ROOM
-        while True:
-            arguments = [given_bytes(netlist), number(target), lent_words(MOST_PAIR_NUMBERS), lent_words(room)]
-            fields, (pairs, formula) = self.call(BUILD, arguments, "Ii")
-            refusal, place, variables, clauses, numbers, count = fields
-            if refusal != ROOM or place <= room:
-                break
-            room = place
-        accept(refusal, place)
+        (variables, clauses, numbers, count), (pairs, formula) = self.with_room(lambda room: self.call(
+            BUILD, [given_bytes(netlist), number(target), lent_words(MOST_PAIR_NUMBERS), lent_words(room)], "Ii"))
         return Built(variables, clauses, formula[:numbers], pairs[:2 * count])
 
     def check(self, variables, formula, refutation):
@@ -263,18 +273,20 @@ class Library:
 
     def judge(self, netlist, delay, vector, refutation):
         """Whether a delay, a vector and a refutation are a certificate."""
-        room = FIRST_FORMULA_ROOM
-        while True:
-            arguments = [given_bytes(netlist), number(delay), given_bytes(vector), given_words(refutation),
-                         lent_bytes(MOST_NODES), lent_words(MOST_NODES), lent_words(MOST_PAIR_NUMBERS),
-                         lent_words(room), lent_bytes(MOST_VARIABLES + 1)]
-            (refusal, place), _ = self.call(JUDGE, arguments, "BIIiB")
-            if refusal != ROOM or place <= room:
-                break
-            room = place
-        accept(refusal, place)
+        self.with_room(lambda room: self.call(
+            JUDGE, [given_bytes(netlist), number(delay), given_bytes(vector), given_words(refutation),
+                    lent_bytes(MOST_NODES), lent_words(MOST_NODES), lent_words(MOST_PAIR_NUMBERS), lent_words(room),
+                    lent_bytes(MOST_VARIABLES + 1)], "BIIiB"))
 
-    # Not the library's.
+    # What the program has beside the library's functions, for a search.
+
+    def write_formula(self, netlist, target, path):
+        """The formula for a target, to a file as DIMACS CNF."""
+        (wrong,), _ = self.with_room(lambda room: self.call(
+            WRITE_FORMULA, [given_bytes(netlist), number(target), given_bytes(os.fsencode(path) + b"\0"),
+                            lent_words(MOST_PAIR_NUMBERS), lent_words(room)], "Ii"))
+        if wrong:
+            raise OfTheMachine(f"the formula for T={target} cannot be written to {path}: is the disk full?")
 
     def shorten(self, variables, formula, refutation):
         """A refutation without the steps that it does not need; the given one where it does not hold."""

@@ -8,15 +8,13 @@ one after the other. Nothing here is trusted: what is found counts once the libr
 """
 
 import array
-import shutil
-import tempfile
 from collections import namedtuple
 
-from .formulas import dimacs
 from .library import Refusal
-from .netlist import Gate, Netlist, Pin, tops_of, write_netlist
+from .machine import folder_for_a_while
+from .netlist import Gate, Netlist, Pin, longest_path, tops_of, write_netlist
 from .refusals import MOST_PAIRS, PAIRS, of_pairs
-from .solvers import Solver, find_solver, read_steps
+from .solvers import Solver, read_steps
 from .trouble import OfTheMachine
 
 MOST_TRIED_INPUTS = 12
@@ -84,9 +82,9 @@ class Search:
         self.times = possible_times(self.netlist)
         self.place_of = {time: place for place, time in enumerate(self.times)}
         self.tops = tops_of(self.netlist)
-        self.known_parts = {}
+        self.known_parts, self.known_cones = {}, []
         self.low, self.high, self.vector = -1, len(self.times), None
-        # The answer at times[high]: its formula and the file of its refutation.
+        # The file of the refutation at times[high]; None where it was refuted output by output.
         self.refuted = None
 
     def reach(self, vector):
@@ -120,11 +118,17 @@ class Search:
         """The same for a target, by counting pairs."""
         if sum(self.tops) <= MOST_PAIRS or count_pairs(self.netlist, self.tops, target) <= MOST_PAIRS:
             return [self.netlist]
-        outputs = [node for node in self.netlist.outputs if self.tops[node] >= target]
-        cones = [cone(self.netlist, node) for node in outputs]
+        cones = [each for each in self.cones() if longest_path(each) >= target]
         if all(count_pairs(each, tops_of(each), target) <= MOST_PAIRS for each in cones):
             return cones
         return None
+
+    def cones(self):
+        """The netlist of each output, that of the longest path first: it has the most pairs."""
+        if not self.known_cones:
+            outputs = sorted(self.netlist.outputs, key=lambda node: self.tops[node], reverse=True)
+            self.known_cones = [cone(self.netlist, node) for node in outputs]
+        return self.known_cones
 
     def next_place(self, step):
         """The place to ask for next, with its parts: down from the top by a step, else in the middle; where these hold
@@ -150,15 +154,19 @@ class Search:
             self.progress.show(f"asking for T={target}; the delay is {self.times[self.low]} to "
                                f"{self.times[self.high - 1]}")
             data = self.circuit.data if netlist is self.netlist else write_netlist(netlist)
-            built = self.library.build(data, target)
-            answer = self.solver.ask(dimacs(built), self.netlist.inputs)
+            answer = self.answer(data, target)
             if answer.has_model:
                 if not self.reach(answer.vector) or self.low < place:
                     raise OfTheMachine(f"{self.solver.name} gave a model for T={target} that does not settle there")
                 return True
         self.high = place
-        self.refuted = (built, answer.refutation) if parts[0] is self.netlist else None
+        self.refuted = answer.refutation if parts[0] is self.netlist else None
         return False
+
+    def answer(self, data, target):
+        """The solver's answer to a netlist's formula."""
+        self.library.write_formula(data, target, self.solver.path("formula"))
+        return self.solver.ask(self.netlist.inputs)
 
     def run(self):
         """Narrow the search down to one time."""
@@ -182,20 +190,12 @@ class Search:
         return refusal
 
     def refutation(self):
-        """The refutation of the formula for the delay + 1, with its formula."""
-        target = self.times[self.low] + 1
+        """The refutation of the formula for the delay + 1."""
         if self.high == len(self.times):
-            return self.library.build(self.circuit.data, target), array.array("i", [0])
+            return array.array("i", [0])
         if self.refuted is None:
-            if len(self.parts(self.high)) > 1:
-                raise self.too_many_pairs()
-            built = self.library.build(self.circuit.data, target)
-            answer = self.solver.ask(dimacs(built), self.netlist.inputs)
-            if answer.has_model:
-                raise OfTheMachine(f"{self.solver.name} gave two answers for T={target}")
-            self.refuted = built, answer.refutation
-        built, path = self.refuted
-        return built, read_steps(path, self.solver.name)
+            raise self.too_many_pairs()
+        return read_steps(self.refuted, self.solver.name)
 
 
 def smaller(library, circuit, delay, vector):
@@ -212,18 +212,22 @@ def smaller(library, circuit, delay, vector):
 
 def by_solver(circuit, library, name, progress, limit=None):
     """A certificate, by a solver."""
-    folder = tempfile.mkdtemp(prefix="buzzlumen-")
-    try:
+    with folder_for_a_while() as folder:
         search = Search(circuit, library, Solver(name, folder, progress, limit), progress)
         search.run()
-        delay = search.times[search.low]
-        built, steps = search.refutation()
+        delay, steps = search.times[search.low], search.refutation()
         progress.show("leaving out steps that the refutation does not need")
-        refutation = library.shorten(built.variables, built.formula, steps)
+        refutation = shortened(library, circuit, delay, steps)
         vector = smaller(library, circuit, delay, search.vector)
         return Found(delay, vector, refutation, name, steps.count(0)), search.solver
-    finally:
-        shutil.rmtree(folder, ignore_errors=True)
+
+
+def shortened(library, circuit, delay, steps):
+    """A refutation of the formula for the delay + 1 without the steps that it does not need."""
+    if len(steps) == 1:
+        return steps
+    built = library.build(circuit.data, delay + 1)
+    return library.shorten(built.variables, built.formula, steps)
 
 
 # By trying
@@ -233,13 +237,12 @@ def by_trying(circuit, library):
     """A certificate, by trying every vector."""
     inputs = circuit.netlist.inputs
     delay, vector = library.walk(circuit.data, inputs)
+    steps = array.array("i", tree(inputs, []))
     try:
-        built = library.build(circuit.data, delay + 1)
+        refutation = shortened(library, circuit, delay, steps)
     except Refusal as refusal:
         refusal.words = of_pairs(delay + 1, count_pairs(circuit.netlist, tops_of(circuit.netlist), delay + 1))
         raise
-    steps = array.array("i", tree(inputs, []))
-    refutation = library.shorten(built.variables, built.formula, steps)
     return Found(delay, vector, refutation, "trying every vector", steps.count(0))
 
 

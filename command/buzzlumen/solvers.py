@@ -3,12 +3,14 @@
 Nothing that a solver says is trusted: a model's vector is settled by the library, a refutation is judged by it.
 """
 
+import array
 import os
-import shutil
+import select
 import subprocess
 import time
 from collections import namedtuple
 
+from .machine import on_path
 from .refutations import read_lines
 from .trouble import OfTheMachine, Slip
 from .words import count, shown
@@ -30,7 +32,7 @@ def find_solver(name=None):
     if name is not None and name not in SOLVERS:
         raise Slip(f"{shown(name)} is no solver that is known here; known are {' and '.join(SOLVERS)}")
     for each in (name,) if name else SOLVERS:
-        if shutil.which(each):
+        if on_path(each):
             return each
     if name:
         raise OfTheMachine(f"the solver {name} is not installed; Debian's package is called {name}")
@@ -48,13 +50,11 @@ class Solver:
         """A file in the folder."""
         return os.path.join(self.folder, name)
 
-    def ask(self, formula, inputs):
-        """The answer to a formula in DIMACS text; the model's vector has so many inputs."""
+    def ask(self, inputs):
+        """The answer to the formula in the folder's file `formula`; the model's vector has so many inputs."""
         self.calls += 1
         refutation = self.path(f"refutation_{self.calls}")
         try:
-            with open(self.path("formula"), "w", encoding="ascii") as file:
-                file.write(formula)
             status = self.run(refutation)
         except OSError as error:
             raise OfTheMachine(f"{self.name} cannot be asked: {error.strerror or error}") from None
@@ -81,13 +81,15 @@ class Solver:
 
     def wait(self, process, began):
         """Wait for the solver, showing that it goes on."""
-        while True:
-            try:
-                return process.wait(POLL_SECONDS)
-            except subprocess.TimeoutExpired:
+        handle = os.pidfd_open(process.pid)
+        try:
+            while not select.select([handle], [], [], POLL_SECONDS)[0]:
                 self.progress.show(f"{self.name} at work for {time.monotonic() - began:.0f} s")
                 if self.limit is not None and time.monotonic() - began > self.limit:
-                    raise OfTheMachine(f"{self.name} found no answer within {count(self.limit, 'second')}") from None
+                    raise OfTheMachine(f"{self.name} found no answer within {count(self.limit, 'second')}")
+        finally:
+            os.close(handle)
+        return process.wait()
 
     def read_model(self, inputs):
         """The inputs' values in the model that the solver printed."""
@@ -108,6 +110,14 @@ class Solver:
         return shown(lines[-1]) if lines else "nothing"
 
 
+def read_slowly(path, lines, name):
+    """The same for a text that is not quite so, or the line that does not read."""
+    try:
+        return read_lines(path, lines).numbers
+    except Slip as slip:
+        raise OfTheMachine(f"{name} wrote no refutation that can be read: {slip}") from None
+
+
 def read_steps(path, name):
     """The refutation that a solver wrote, ended by the empty clause."""
     try:
@@ -115,10 +125,13 @@ def read_steps(path, name):
             text = file.read()
     except OSError:
         text = ""
+    lines = text.split("\n")
     try:
-        numbers = read_lines(path, text.split("\n")).numbers
-    except Slip as slip:
-        raise OfTheMachine(f"{name} wrote no refutation that can be read: {slip}") from None
+        # As solvers write it: one clause a line, and nothing but deletions and comments between.
+        rows = [line for line in lines if line and line[0] not in "dc%"]
+        numbers = array.array("i", map(int, " ".join(rows).split())) or array.array("i", [0])
+    except (ValueError, OverflowError):
+        numbers = read_slowly(path, lines, name)
     if numbers[-1] != 0 or (len(numbers) > 1 and numbers[-2] != 0):
         numbers.append(0)
     return numbers
