@@ -9,7 +9,7 @@ STATUS = """exit status:
   1  a refusal            3  something of the machine: no solver, no library, no room on the disk
   Of several circuits, the largest. An interrupt ends with 130."""
 
-DESCRIPTION = """The true delay of a circuit, with a certificate that anyone can check, by a library whose code is proved.
+DESCRIPTION = """The true delay of a circuit, with a certificate that anyone can check, by a library that is proved.
 Answers go to standard output, the same in plain words to standard error."""
 
 CIRCUIT_HELP = "a circuit: its text or a netlist file, known by its content; - is standard input"
@@ -70,7 +70,8 @@ def add_judge(add):
 def add_delay(add):
     """delay"""
     parser = add("delay", "find the true delay of circuits, and a certificate that the library accepts",
-                 "buzzlumen delay circuit_a.txt -o circuit_a.certificate\n  buzzlumen delay circuit_a.txt circuit_b.txt")
+                 "buzzlumen delay circuit_a.txt -o circuit_a.certificate\n"
+                 "  buzzlumen delay circuit_a.txt circuit_b.txt")
     parser.add_argument("circuits", metavar="CIRCUIT", nargs="+", help=CIRCUIT_HELP)
     parser.add_argument("--solver", metavar="NAME", help="cadical or picosat; else the first that is installed")
     parser.add_argument("--seconds", metavar="N", help="give up where the solver takes longer for one question")
@@ -100,8 +101,8 @@ def add_from_yosys(add):
     parser = add("from-yosys", "the circuit of a block that yosys mapped to simple gates, from its JSON",
                  "yosys -p 'read_verilog block.v; synth -flatten -top block; abc -g gates; opt_clean -purge;\n"
                  "    write_json block.json'\n  buzzlumen from-yosys block.json --delays delays.txt -o block.txt\n\n"
-                 "A block with flip-flops: the command that cuts them into inputs and outputs stands before abc,\n"
-                 "    dfflegalize -cell $_DFF_P_ x; expose -evert-dff;")
+                 "A block with flip-flops: before abc -g gates, cut them into inputs and outputs by\n"
+                 "  dffunmap; expose -evert-dff;")
     parser.add_argument("block", metavar="JSON", help="what yosys's write_json wrote")
     parser.add_argument("--delays", metavar="FILE", help="a table: a cell and a delay, or a cell, a pin and a delay")
     parser.add_argument("--top", metavar="MODULE", help="the module, where yosys marked none as top")
@@ -131,8 +132,9 @@ def parser():
     below = whole.add_subparsers(dest="command", metavar="COMMAND", title="commands")
 
     def add(name, says, example):
-        return below.add_parser(name, help=says, description=says[0].upper() + says[1:] + ("" if says[-1] in "?.!" else "."),
-                                epilog=f"example:\n  {example}", formatter_class=Wide, allow_abbrev=False)
+        sentence = says[0].upper() + says[1:] + ("" if says.endswith("?") else ".")
+        return below.add_parser(name, help=says, description=sentence, epilog=f"example:\n  {example}",
+                                formatter_class=Wide, allow_abbrev=False)
 
     for command in COMMANDS:
         command(add)

@@ -11,7 +11,6 @@ A line that this version does not know is refused by its name, so that a later o
 """
 
 import array
-import hashlib
 import re
 from collections import namedtuple
 
@@ -33,6 +32,7 @@ Certificate = namedtuple("Certificate", "path digest delay names values refutati
 
 def digest_of(data):
     """The digest of a netlist: SHA-256 over its tables and its trailer. A note before them is no part of a circuit."""
+    import hashlib
     back, = TRAILER.unpack_from(data, len(data) - TRAILER.size)[:1]
     return hashlib.sha256(data[len(data) - TRAILER.size - back:]).hexdigest()
 

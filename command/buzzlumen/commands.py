@@ -7,12 +7,12 @@ import time
 
 from . import files
 from .circuit import load, write_text
-from .formulas import Meanings, NoMeanings, clause_words, dimacs, read_formula
+from .formulas import Meanings, NoMeanings, dimacs, read_formula
 from .library import Refusal
 from .netlist import longest_path, tops_of
 from .refusals import (FORMULA, LAST, PAIRS, REFUTATION, STEP, TABLE, VECTOR, WITNESS, in_words, named, of_pairs,
                        of_vector, of_witness)
-from .trouble import OfTheMachine, Refused, Slip, Trouble
+from .trouble import OfTheMachine, Slip, Trouble
 from .vectors import read_vector, shown_vector
 from .words import asked_number, count, number_in, shown
 
@@ -230,7 +230,6 @@ def delay_outputs(asked):
 
 def one_delay(path, output, asked, solver, limit, library, say):
     """Find one circuit's certificate and have it judged."""
-    from .certificates import write_certificate
     from .search import MOST_TRIED_INPUTS, by_solver, by_trying
     began = time.monotonic()
     circuit, ran = load(path, library), None
@@ -249,6 +248,7 @@ def one_delay(path, output, asked, solver, limit, library, say):
     say.words(f"Found by {found.by}: {shown_vector(found.vector, circuit.names)} settles at {found.delay}, and nothing "
               f"settles later, by a refutation of {count(list(found.refutation).count(0), 'step')}.")
     if output is not None:
+        from .certificates import write_certificate
         text = write_certificate(circuit, found.delay, found.vector, found.refutation)
         files.write_file(output, text.encode(), asked.force)
     say.answer(f"delay {found.delay}")
@@ -268,8 +268,8 @@ def accept_found(circuit, found, library):
 def figures(seconds, ran, found):
     """How long a search took."""
     own = f"{ran.name} took {ran.seconds:.2f} s for {count(ran.calls, 'question')}, " if ran else ""
-    return (f"{own}the whole {seconds:.2f} s. The refutation had {count(found.steps, 'step')} before those that it does "
-            "not need were left out.")
+    return (f"{own}the whole {seconds:.2f} s. The refutation had {count(found.steps, 'step')} before those that it "
+            "does not need were left out.")
 
 
 # Conversions and explanations

@@ -80,6 +80,8 @@ def kind_of(data):
         return CERTIFICATE
     if looks_like_netlist(data):
         return NETLIST
+    if data.startswith(OTHER_MARKS):
+        return CIRCUIT
     if b"\0" in text[:4096]:
         return {b"a": BINARY_PROOF, b"d": BINARY_PROOF, b"o": BINARY_FRAT}.get(text[:1], NETLIST)
     if start.startswith(b"{"):

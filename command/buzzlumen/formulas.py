@@ -9,7 +9,7 @@ from .trouble import Slip
 from .words import MOST_NUMBER, lines_of, number_in, shown
 
 MOST_LITERAL = 2 ** 31 - 1
-MOST_SAID = 8
+MOST_SAID, MOST_SAID_NODES = 8, 40
 NUMBER = re.compile(r"0|-?[1-9][0-9]*")
 MEANING = re.compile(r"c variable ([0-9]+): (.+)")
 
@@ -152,7 +152,8 @@ class Meanings:
         said = [f"{variable}: {self.of(variable)}" for variable in range(first, first + min(count, MOST_SAID))]
         if count > MOST_SAID:
             said.append(f"and so on to {first + count - 1} (--names has them all)")
-        nodes = f"Variables 1 to {len(self.names)}: {' '.join(self.names)}."
+        names = self.names if len(self.names) <= MOST_SAID_NODES else [*self.names[:2], "...", self.names[-1]]
+        nodes = f"Variables 1 to {len(self.names)}: {' '.join(names)}."
         return " ".join([nodes] + [", ".join(said) + "."] * bool(said))
 
 

@@ -3,8 +3,8 @@
 A circuit settles only at sums of delays along its paths, so these are the times in question. The search goes down from
 the longest path by growing steps, because the formulas near it are small, until some vector is as late; then by halves.
 A target whose formula holds more pairs than the library takes is asked output by output, each with the gates that it
-rests on. Without a solver, a circuit of at most 12 inputs is tried vector by vector, and the refutation fixes the inputs
-one after the other. Nothing here is trusted: what is found counts once the library has judged it.
+rests on. Without a solver, a circuit of at most 12 inputs is tried vector by vector, and the refutation fixes the
+inputs one after the other. Nothing here is trusted: what is found counts once the library has judged it.
 """
 
 import array
@@ -18,6 +18,8 @@ from .solvers import Solver, read_steps
 from .trouble import OfTheMachine
 
 MOST_TRIED_INPUTS = 12
+# Of so few inputs the vector that is shown is the first in order, so that every solver's answer is the same.
+MOST_ORDERED_INPUTS = 10
 FIRST_LOOKS = 30
 
 # What was found, and by whom; the refutation's steps before and after those that it did not need were left out.
@@ -201,7 +203,7 @@ class Search:
 def smaller(library, circuit, delay, vector):
     """A vector that settles at the delay too, with a 0 for as many of its 1 as go one after the other; of few inputs
     the first one in order."""
-    if circuit.netlist.inputs <= MOST_TRIED_INPUTS:
+    if circuit.netlist.inputs <= MOST_ORDERED_INPUTS:
         return library.walk(circuit.data, circuit.netlist.inputs, delay)[1]
     for place in range(len(vector)):
         other = vector[:place] + b"\0" + vector[place + 1:]
