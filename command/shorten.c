@@ -14,7 +14,7 @@
 #include <stdlib.h>
 #include <string.h>
 
-enum { NONE = -1, MEMORY_IS_SHORT = 4 };
+enum { NONE = -1, MEMORY_IS_SHORT = 4, MOST_VARIABLES = 1 << 24 };
 
 typedef struct {
     int32_t *literals; /* its different literals; the first two are watched */
@@ -340,13 +340,26 @@ static size_t copy_needed(int32_t of_formula, int32_t steps, const int32_t *refu
     return written;
 }
 
+/* Whether a list ends in 0, or is empty, and every literal in it is at most `variables`. */
+static int reads(const int32_t *numbers, size_t length, uint32_t variables)
+{
+    for (size_t i = 0; i < length; i++)
+        if (numbers[i] == INT32_MIN || variable(numbers[i]) > variables)
+            return 0;
+    return length == 0 || numbers[length - 1] == 0;
+}
+
 size_t shorten(uint32_t variables, const int32_t *formula, size_t formula_length,
                const int32_t *refutation, size_t refutation_length, int32_t *shorter)
 {
     size_t of_formula = clauses_in(formula, formula_length), written = 0;
     size_t all = of_formula + clauses_in(refutation, refutation_length), at = 0, used = 0;
     int32_t steps;
-    uint8_t *seen = room_for(2 * variables + 2, 1);
+    uint8_t *seen;
+    if (variables > MOST_VARIABLES || all > INT32_MAX / 2 || !reads(formula, formula_length, variables) ||
+        !reads(refutation, refutation_length, variables))
+        return 0;
+    seen = room_for(2 * variables + 2, 1);
     take_room(variables, all, formula_length + refutation_length);
     for (size_t number = 0; number < of_formula; number++) {
         at += read_clause(formula + at, own + used, &clauses[number], seen);

@@ -6,8 +6,8 @@
 #include <stdint.h>
 
 /* Writes a shorter refutation into `shorter`, which has the room of the given one, and gives its count of numbers.
- * Gives 0, and leaves the room as it may be, where it finds a step that does not follow, or no empty one: then the
- * refutation is for the judge as it is. Every literal is at most `variables`; every clause is ended by 0. */
+ * Gives 0, and leaves the room as it may be, where a step does not follow, none is empty, a literal is over `variables`
+ * or a list does not end in 0: then the refutation is for the judge as it is. */
 size_t shorten(uint32_t variables, const int32_t *formula, size_t formula_length,
                const int32_t *refutation, size_t refutation_length, int32_t *shorter);
 

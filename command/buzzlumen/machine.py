@@ -5,6 +5,7 @@ Small stand-ins for parts of the standard library whose loading takes longer tha
 
 import contextlib
 import os
+import signal
 
 from .trouble import OfTheMachine
 
@@ -32,3 +33,17 @@ def folder_for_a_while(inside=None):
             for name in os.listdir(folder):
                 os.unlink(os.path.join(folder, name))
             os.rmdir(folder)
+
+
+@contextlib.contextmanager
+def uninterrupted():
+    """A moment that no interrupt breaks into; one that came meanwhile is raised at its end."""
+    came = []
+    before = {number: signal.signal(number, lambda *_: came.append(True)) for number in (signal.SIGINT, signal.SIGTERM)}
+    try:
+        yield
+    finally:
+        for number, handler in before.items():
+            signal.signal(number, handler)
+    if came:
+        raise KeyboardInterrupt

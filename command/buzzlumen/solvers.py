@@ -10,7 +10,7 @@ import subprocess
 import time
 from collections import namedtuple
 
-from .machine import on_path
+from .machine import on_path, uninterrupted
 from .refutations import read_lines
 from .trouble import OfTheMachine, Slip
 from .words import count, shown
@@ -68,13 +68,15 @@ class Solver:
         """Run the solver; its status."""
         names = {"formula": self.path("formula"), "refutation": refutation}
         command = [self.name] + [argument.format(**names) for argument in SOLVERS[self.name]]
-        began = time.monotonic()
+        began, process = time.monotonic(), None
         with open(self.path("said"), "wb") as said:
-            process = subprocess.Popen(command, stdin=subprocess.DEVNULL, stdout=said, stderr=subprocess.STDOUT)
             try:
+                with uninterrupted():
+                    process = subprocess.Popen(command, stdin=subprocess.DEVNULL, stdout=said,
+                                               stderr=subprocess.STDOUT)
                 return self.wait(process, began)
             finally:
-                if process.returncode is None:
+                if process is not None and process.returncode is None:
                     process.kill()
                     process.wait()
                 self.seconds += time.monotonic() - began

@@ -136,7 +136,8 @@ class Parts(unittest.TestCase):
             self.assertEqual(list(library.shorten(2, square, [2, 1, 0, 1, 0, 2, 0, 0])), [1, 0, 0])
             self.assertEqual(list(library.shorten(2, square, [0])), [0])
             self.assertEqual(list(library.shorten(2, [1, 0, -1, 0], [2, 0, 0])), [0])
-            self.assertEqual(list(library.shorten(2, [1, 2, 2, 0], [1, -1, 0, 0])), [1, -1, 0, 0])
+            for steps in ([1, -1, 0, 0], [3, 0, 0], [-2 ** 31, 0, 0], [1, 0, 0, 1], [1], [], [1, 0]):
+                self.assertEqual(list(library.shorten(2, [1, 2, 2, 0], steps)), steps)
 
 
 if __name__ == "__main__":
