@@ -246,7 +246,7 @@ def one_delay(path, output, asked, solver, limit, library, say):
     accept_found(circuit, found, library)
     say.progress.clear()
     say.words(f"Found by {found.by}: {shown_vector(found.vector, circuit.names)} settles at {found.delay}, and nothing "
-              f"settles later, by a refutation of {count(list(found.refutation).count(0), 'step')}.")
+              "settles later.")
     if output is not None:
         from .certificates import write_certificate
         text = write_certificate(circuit, found.delay, found.vector, found.refutation)
@@ -266,10 +266,11 @@ def accept_found(circuit, found, library):
 
 
 def figures(seconds, ran, found):
-    """How long a search took."""
-    own = f"{ran.name} took {ran.seconds:.2f} s for {count(ran.calls, 'question')}, " if ran else ""
-    return (f"{own}the whole {seconds:.2f} s. The refutation had {count(found.steps, 'step')} before those that it "
-            "does not need were left out.")
+    """How long a search took, and how long its refutation is."""
+    own = f"{ran.name} took {ran.seconds:.3f} s for {count(ran.calls, 'question')}, the" if ran else "The"
+    kept = sum(1 for number in found.refutation if number == 0)
+    return (f"{own} whole {seconds:.3f} s. The refutation had {count(found.steps, 'step')}; it needs, and keeps, "
+            f"{kept:,}.")
 
 
 # Conversions and explanations

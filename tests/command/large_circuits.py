@@ -138,6 +138,7 @@ def main():
     parser = argparse.ArgumentParser(description=__doc__, formatter_class=argparse.RawDescriptionHelpFormatter)
     parser.add_argument("--out", help="a folder for the netlist files")
     asked = parser.parse_args()
+    print("| Circuit | True delay | Questions | Steps | Kept | Solver, s | Whole, s | Ratio |\n" + "|---" * 8 + "|")
     with tempfile.TemporaryDirectory() as folder:
         for name, make in LARGEST.items():
             path = pathlib.Path(asked.out or folder) / (name.replace(" ", "_").replace(",", "") + ".netlist")
@@ -145,9 +146,9 @@ def main():
             if not asked.out:
                 answer, own, questions, whole = measure(path)
                 top = re.search(r"adds up to (\d+)", answer.err)[1]
-                steps = re.search(r"by a refutation of ([\d,]+) step", answer.err)[1]
-                print(f"| {name} | {answer.out.decode().split()[1]} of {top} | {questions} | {steps} | {own:.2f} | "
-                      f"{whole:.2f} | {whole / max(own, 0.01):.1f} |", flush=True)
+                had, kept = re.search(r"had ([\d,]+) steps?; it needs, and keeps, ([\d,]+)", answer.err).groups()
+                print(f"| {name} | {answer.out.decode().split()[1]} of {top} | {questions} | {had} | {kept} | {own:.2f} | "
+                      f"{whole:.2f} | {whole / max(own, 0.001):.1f} |", flush=True)
 
 
 if __name__ == "__main__":

@@ -24,7 +24,8 @@ PIECES = (b"", b"0", b"1", b"-1", b" ", b"\n", b"\r", b"\t", b"#", b"=", b":", b
 WORDS = ("times", "formula", "check", "judge", "delay", "explain-refusal", "netlist", "from-yosys", "-o", "--force",
          "--names", "--delay", "--vector", "--refutation", "--solver", "--seconds", "--text", "--bytes", "--top",
          "--delays", "cadical", "refused", "15", "0,1", "01", "a=0", "b=1", "3", "-1", "", "--", "-", "-h", "ä",
-         "9" * 5000, "a b", ".", "circuit.txt", "a.netlist", "made.certificate", "late.cnf", "steps", "block.json", "delays")
+         "9" * 5000, "a b", ".", "circuit.txt", "a.netlist", "made.certificate", "late.cnf", "steps",
+         "block.json", "delays")
 
 
 def damaged(dice, data):
@@ -126,7 +127,8 @@ class Fuzz(Asking):
         super().setUp()
         self.dice, self.number = methods.Dice(SEED), 0
         self.texts = [path.read_bytes() for path in sorted(COURSE.glob("circuit_[abc].txt"))]
-        a = Netlist(2, [Gate(BUF, [Pin(0, 3)]), Gate(AND, [Pin(2, 1), Pin(1, 1)]), Gate(OR, [Pin(3, 1), Pin(1, 1)])], [4])
+        gates = [Gate(BUF, [Pin(0, 3)]), Gate(AND, [Pin(2, 1), Pin(1, 1)]), Gate(OR, [Pin(3, 1), Pin(1, 1)])]
+        a = Netlist(2, gates, [4])
         self.netlists = [document.write_netlist(a), document.write_netlist(a, b"note")]
         self.c = self.file("c.netlist", b"")
         self.ask("netlist", COURSE / "circuit_c.txt", "-o", self.c, "--force")
