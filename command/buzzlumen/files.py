@@ -36,6 +36,8 @@ def cause(error):
 def read_bytes(path, most=MOST_SOLVER_TEXT):
     """A file's bytes; a Slip where it is none, cannot be read, or is larger than anything that could be asked for."""
     try:
+        if path == STANDARD_INPUT and sys.stdin is None:
+            raise Slip("standard input: is closed")
         if path == STANDARD_INPUT:
             data = sys.stdin.buffer.read(most + 1)
         else:

@@ -148,9 +148,10 @@ def on_terminate(_number, _frame):
 def main(words=None):
     """The command; gives its exit status."""
     say = Say()
-    for stream in (sys.stdout, sys.stderr):
-        if hasattr(stream, "reconfigure"):
-            stream.reconfigure(errors="backslashreplace")
+    for name in ("stdout", "stderr"):
+        if getattr(sys, name) is None:
+            setattr(sys, name, open(os.devnull, "w", encoding="utf-8"))
+        getattr(sys, name).reconfigure(errors="backslashreplace")
     try:
         signal.signal(signal.SIGTERM, on_terminate)
         return finished(lambda: run(sys.argv[1:] if words is None else words, say), say)

@@ -176,10 +176,22 @@ class Search:
         step, found = 1, False
         while self.low + 1 < self.high:
             place, parts = self.next_place(step if not found else self.high)
-            if place is None:
+            if place is None and not self.some_output_late(self.high - 1):
                 raise self.too_many_pairs()
-            found = self.ask(place, parts) or found
+            if place is not None:
+                found = self.ask(place, parts) or found
             step *= 2
+
+    def some_output_late(self, place):
+        """Whether an output whose own formula the library takes is late at a place, others left aside."""
+        target = self.target(place)
+        for netlist in self.cones():
+            tops = tops_of(netlist)
+            if max(tops) >= target and count_pairs(netlist, tops, target) <= MOST_PAIRS:
+                answer = self.answer(write_netlist(netlist), target)
+                if answer.has_model and self.reach(answer.vector):
+                    return True
+        return False
 
     def too_many_pairs(self):
         """The library's refusal of a formula that it would take to go on."""

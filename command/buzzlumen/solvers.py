@@ -4,6 +4,7 @@ Nothing that a solver says is trusted: a model's vector is settled by the librar
 """
 
 import array
+import contextlib
 import os
 import select
 import subprocess
@@ -37,6 +38,21 @@ def find_solver(name=None):
     if name:
         raise OfTheMachine(f"the solver {name} is not installed; Debian's package is called {name}")
     return None
+
+
+def ended(process):
+    """Whether a program has ended, after a moment's waiting at most."""
+    try:
+        handle = os.pidfd_open(process.pid)
+    except (AttributeError, OSError):
+        # A kernel without such handles: look now and then.
+        with contextlib.suppress(subprocess.TimeoutExpired):
+            process.wait(POLL_SECONDS)
+        return process.returncode is not None
+    try:
+        return bool(select.select([handle], [], [], POLL_SECONDS)[0])
+    finally:
+        os.close(handle)
 
 
 class Solver:
@@ -83,14 +99,10 @@ class Solver:
 
     def wait(self, process, began):
         """Wait for the solver, showing that it goes on."""
-        handle = os.pidfd_open(process.pid)
-        try:
-            while not select.select([handle], [], [], POLL_SECONDS)[0]:
-                self.progress.show(f"{self.name} at work for {time.monotonic() - began:.0f} s")
-                if self.limit is not None and time.monotonic() - began > self.limit:
-                    raise OfTheMachine(f"{self.name} found no answer within {count(self.limit, 'second')}")
-        finally:
-            os.close(handle)
+        while not ended(process):
+            self.progress.show(f"{self.name} at work for {time.monotonic() - began:.0f} s")
+            if self.limit is not None and time.monotonic() - began > self.limit:
+                raise OfTheMachine(f"{self.name} found no answer within {count(self.limit, 'second')}")
         return process.wait()
 
     def read_model(self, inputs):

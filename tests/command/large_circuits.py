@@ -99,16 +99,26 @@ def random_block(seed, delay=unit, window=40):
     return Netlist(INPUTS, gates, unread[:OUTPUTS])
 
 
-def ladder(stages=150):
-    """A long way of many different lengths that no vector makes matter, beside a short one: circuit A with a ladder in
-    place of its slow gate. The formulas for targets between the two have more pairs than the library holds."""
-    gates, node = [], 0
-    for stage in range(stages):
-        gates.append(Gate(XOR, [Pin(node, 1 + stage % 7), Pin(node, 40 + stage % 11)]))
-        node = 1 + len(gates)
-    both = len(gates) + 2
-    gates += [Gate(AND, [Pin(node, 1), Pin(1, 1)]), Gate(OR, [Pin(both, 1), Pin(1, 1)])]
-    return Netlist(2, gates, [both + 1])
+def ladders(stages, copies=1, true_way=0):
+    """Circuit A, copies of it side by side, with a ladder of many different lengths in place of its slow gate: a long
+    way that no vector makes matter. Formulas for targets between the true delay and the longest path have many pairs.
+    A further output may have a true way of a given length."""
+    gates, inputs, outputs = [], 2 * copies, []
+
+    def add(kind, *pins):
+        gates.append(Gate(kind, [Pin(*pin) for pin in pins]))
+        return inputs + len(gates) - 1
+
+    for slow, other in zip(range(0, inputs, 2), range(1, inputs, 2)):
+        for stage in range(stages):
+            slow = add(XOR, (slow, 1 + stage % 7), (slow, 40 + stage % 11))
+        outputs.append(add(OR, (add(AND, (slow, 1), (other, 1)), 1), (other, 1)))
+    if true_way:
+        way = 0
+        for length in [999] * (true_way // 999) + [true_way % 999]:
+            way = add(BUF, (way, length))
+        outputs.append(way)
+    return Netlist(inputs, gates, outputs)
 
 
 # The circuits by name, and the true delay of each where it is known from a run.
@@ -138,7 +148,8 @@ def main():
     parser = argparse.ArgumentParser(description=__doc__, formatter_class=argparse.RawDescriptionHelpFormatter)
     parser.add_argument("--out", help="a folder for the netlist files")
     asked = parser.parse_args()
-    print("| Circuit | True delay | Questions | Steps | Kept | Solver, s | Whole, s | Ratio |\n" + "|---" * 8 + "|")
+    if not asked.out:
+        print("| Circuit | True delay | Questions | Steps | Kept | Solver, s | Whole, s | Ratio |\n" + "|---" * 8 + "|")
     with tempfile.TemporaryDirectory() as folder:
         for name, make in LARGEST.items():
             path = pathlib.Path(asked.out or folder) / (name.replace(" ", "_").replace(",", "") + ".netlist")
@@ -147,8 +158,9 @@ def main():
                 answer, own, questions, whole = measure(path)
                 top = re.search(r"adds up to (\d+)", answer.err)[1]
                 had, kept = re.search(r"had ([\d,]+) steps?; it needs, and keeps, ([\d,]+)", answer.err).groups()
-                print(f"| {name} | {answer.out.decode().split()[1]} of {top} | {questions} | {had} | {kept} | {own:.2f} | "
-                      f"{whole:.2f} | {whole / max(own, 0.001):.1f} |", flush=True)
+                delay, ratio = answer.out.decode().split()[1], f"{whole / own:.1f}" if own else ""
+                print(f"| {name} | {delay} of {top} | {questions} | {had} | {kept} | {own:.2f} | {whole:.2f} | {ratio} |",
+                      flush=True)
 
 
 if __name__ == "__main__":

@@ -98,10 +98,21 @@ class LargestCircuits(Asking):
         self.assertIn("The longest path adds up to 40.", answer.err)
 
     def test_too_many_pairs_between(self):
-        """Where formulas between the longest path and the delay have too many pairs, the delay is found from below."""
-        path = self.file("ladder", write_netlist(large_circuits.ladder()))
-        self.assertIn("PAIRS: the formula for T=2000 has ", self.ask("formula", path, "2000", status=1).err)
-        self.assertEqual(self.ask("delay", path).out, "delay 2\n")
+        """Where formulas between the longest path and the delay have too many pairs, the delay is found from below, or
+        output by output."""
+        for stages, copies in ((150, 1), (70, 3)):
+            path = self.file("ladder", write_netlist(large_circuits.ladders(stages, copies)))
+            self.assertIn("PAIRS: the formula for T=1500 has ", self.ask("formula", path, "1500", status=1).err)
+            self.assertEqual(self.ask("delay", path).out, "delay 2\n")
+
+    def test_too_many_pairs_at_the_delay(self):
+        """Where the formula for the delay + 1 has too many pairs there is no certificate, and the solver's word is
+        told for what it is."""
+        path = self.file("ladder", write_netlist(large_circuits.ladders(70, 3, 1500)))
+        answer = self.ask("delay", path, status=1)
+        self.assertEqual(answer.out, "refused 10 0\n")
+        self.assertRegex(answer.err, r"PAIRS: the formula for T=1501 has [\d,]+ pairs, and the library holds 65,536\. "
+                         r"By cadical's word alone the delay is 1500\.\n$")
 
 
 class Parts(unittest.TestCase):

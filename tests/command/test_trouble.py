@@ -90,6 +90,13 @@ class Trouble(Asking):
             self.assertNotIn("Traceback", said)
             self.assertNotIn("Exception", said)
 
+    def test_closed_streams(self):
+        """Standard input, output or error that is closed from the start."""
+        for closed, words, status in (((1,), ("times", A, "01"), 0), ((2,), ("times", A, "0"), 1),
+                                      ((0,), ("delay", "-"), 2), ((0, 1, 2), ("delay", A), 0),
+                                      ((1, 2), ("nothing",), 2)):
+            self.ask(*words, status=status, preexec_fn=lambda closed=closed: [os.close(each) for each in closed])
+
     def test_numbers_without_end(self):
         """A number of 5,000 digits, wherever a number is read."""
         for words in (("formula", A, LONG), ("judge", A, "--delay", LONG, "--vector", "00", "--refutation", A),
