@@ -1,4 +1,7 @@
-"""The questions: each subcommand as a function that prints its answer and gives its status."""
+"""The questions: each subcommand as a function that prints its answer and gives its status.
+
+Parts that only some questions need are loaded by these, so that every answer starts soon.
+"""
 
 import itertools
 import os

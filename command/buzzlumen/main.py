@@ -5,6 +5,7 @@ import signal
 import sys
 
 from .trouble import OfTheMachine, Slip, Trouble
+from .words import printable
 
 INTERRUPTED = 130
 
@@ -41,12 +42,12 @@ def is_terminal(stream):
 class Say:
     """Answers to standard output, words to standard error; a heading where there are several circuits."""
 
-    def __init__(self, heading="", progress=None):
-        self.heading, self.progress = heading, progress or Progress()
+    def __init__(self, name="", progress=None):
+        self.name, self.heading, self.progress = name, name and name + ": ", progress or Progress()
 
-    def under(self, heading):
+    def under(self, name):
         """The same for one of several circuits."""
-        return Say(heading + ": ", self.progress)
+        return Say(name, self.progress)
 
     def answer(self, line):
         """A line of the answer."""
@@ -65,7 +66,9 @@ class Say:
         if trouble.status == 1:
             self.answer(str(trouble) if hasattr(trouble, "number") else "refused")
         words = getattr(trouble, "words", str(trouble))
-        self.words(words if trouble.status == 1 else f"buzzlumen: {words}")
+        # Words that name the circuit's file themselves need no heading.
+        said = Say("", self.progress) if words.startswith(self.name) else self
+        said.words(words if trouble.status == 1 else f"buzzlumen: {words}")
         return trouble.status
 
     def write(self, data, path, force):
@@ -175,6 +178,17 @@ def finished(work, say):
         return told(OfTheMachine("memory is short"), say)
     except RecursionError:
         return told(Slip("what was asked is nested too deeply"), say)
+    except Exception as error:  # A fault of the command itself is told in one line too.
+        return told(OfTheMachine(own_fault(error)), say)
+
+
+def own_fault(error):
+    """A fault of the command itself, with its place."""
+    frame = error.__traceback__
+    while frame.tb_next is not None:
+        frame = frame.tb_next
+    place = f"{os.path.basename(frame.tb_frame.f_code.co_filename)}:{frame.tb_lineno}"
+    return f"a fault of the command's own, at {place}: {type(error).__name__} {printable(str(error))[:200]}"
 
 
 def handed_on(status, say):

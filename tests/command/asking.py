@@ -66,5 +66,6 @@ class Asking(unittest.TestCase):
         """Ask; the answer has this status, and no line is a traceback."""
         answer = run(words, **options)
         self.assertNotIn("Traceback", answer.err, words)
+        self.assertNotIn("a fault of the command's own", answer.err, words)
         self.assertEqual(answer.status, status, (words, (answer.out or b"")[:300], answer.err[:600]))
         return Answer(answer.status, (answer.out or b"").decode(errors="replace"), answer.err)

@@ -21,7 +21,7 @@ from asking import run  # noqa: E402
 from document import AND, BUF, MUX, NAND, NOR, NOT, OR, XNOR, XOR, Gate, Netlist, Pin, write_netlist  # noqa: E402
 from methods import Dice, random_pin_count  # noqa: E402
 
-INPUTS, GATES, OUTPUTS, MOST_DRAWN_PINS = 64, 448, 64, 4
+INPUTS, GATES, MOST_OUTPUTS, MOST_DRAWN_PINS = 64, 448, 64, 4
 # The kinds of a random block: those of a synthesised one, mostly simple gates.
 COMMON = (BUF, NOT, AND, AND, NAND, NAND, NAND, OR, OR, NOR, NOR, NOR, XOR, XNOR, MUX)
 
@@ -87,8 +87,8 @@ def multiplier(bits, delay=unit):
 
 
 def random_block(seed, delay=unit, window=40):
-    """A circuit of 64 inputs and 448 gates whose pins reach at most a window of nodes back; every gate reaches an
-    output, as those that nothing reads are outputs, and as many as are too many are read by a row of ANDs."""
+    """A circuit of 64 inputs and 448 gates whose pins reach at most a window of nodes back; the gates that nothing
+    reads are its outputs."""
     dice, gates = Dice(seed), []
     for node in range(INPUTS, INPUTS + GATES):
         kind = dice.choice(COMMON)
@@ -96,7 +96,8 @@ def random_block(seed, delay=unit, window=40):
         gates.append(Gate(kind, [Pin(max(0, node - 1 - dice.randrange(window)), delay()) for _ in range(count)]))
     used = {pin.driver for gate in gates for pin in gate.pins}
     unread = [node for node in range(INPUTS, INPUTS + GATES) if node not in used]
-    return Netlist(INPUTS, gates, unread[:OUTPUTS])
+    assert len(unread) <= MOST_OUTPUTS, "another seed or a smaller window leaves fewer gates that nothing reads"
+    return Netlist(INPUTS, gates, unread)
 
 
 def ladders(stages, copies=1, true_way=0):
@@ -159,8 +160,8 @@ def main():
                 top = re.search(r"adds up to (\d+)", answer.err)[1]
                 had, kept = re.search(r"had ([\d,]+) steps?; it needs, and keeps, ([\d,]+)", answer.err).groups()
                 delay, ratio = answer.out.decode().split()[1], f"{whole / own:.1f}" if own else ""
-                print(f"| {name} | {delay} of {top} | {questions} | {had} | {kept} | {own:.2f} | {whole:.2f} | {ratio} |",
-                      flush=True)
+                print(f"| {name} | {delay} of {top} | {questions} | {had} | {kept} | {own:.2f} | {whole:.2f} | "
+                      f"{ratio} |", flush=True)
 
 
 if __name__ == "__main__":

@@ -196,7 +196,8 @@ class Fuzz(Asking):
             answers = list(pool.map(lambda case: run(case[0], cwd=self.folder), cases))
         told = []
         for (words, wrong), answer in zip(cases, answers):
-            about = wrong(answer) or ("traceback" if "Traceback" in answer.err else "")
+            fault = "Traceback" in answer.err or "fault of the command" in answer.err
+            about = wrong(answer) or ("traceback" if fault else "")
             if not about and answer.status in (1, 2) and not answer.err.strip():
                 about = "nothing is said"
             if about:
