@@ -12,7 +12,7 @@ from document import pairs_of, write_netlist
 
 CIRCUITS = 60
 # A whole search may take three times the solver's own seconds, and the start of the command.
-TIMES_THE_SOLVER, START_SECONDS = 3, 1.0
+TIMES_THE_SOLVER, START_SECONDS = 3, 0.5
 
 
 def small_circuits():
@@ -86,8 +86,12 @@ class LargestCircuits(Asking):
         """Each has its certificate, and the whole takes little longer than the solver."""
         for name, make in large_circuits.LARGEST.items():
             path = self.file("large.netlist", write_netlist(make()))
-            answer, own, _, whole = large_circuits.measure(path)
-            self.assertEqual(answer.status, 0, (name, answer))
+            # The machine may be busy with other things: one good run of three is enough.
+            for _ in range(3):
+                answer, own, _, whole = large_circuits.measure(path)
+                self.assertEqual(answer.status, 0, (name, answer))
+                if whole <= TIMES_THE_SOLVER * own + START_SECONDS:
+                    break
             self.assertLessEqual(whole, TIMES_THE_SOLVER * own + START_SECONDS, name)
 
     def test_known_delays(self):
