@@ -23,6 +23,7 @@ PACKAGES = {
     "cadical": "cadical",
     "picosat": "picosat",
     "valgrind": "valgrind",
+    "mandoc": "mandoc",
     "x86_64-linux-gnu-gcc": "gcc-x86-64-linux-gnu libc6-dev-amd64-cross",
     "qemu-x86_64": "qemu-user",
     LOADER: "libc6-amd64-cross",

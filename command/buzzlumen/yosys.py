@@ -1,26 +1,21 @@
-#!/usr/bin/env python3
-"""Converts a block that yosys mapped to simple gates, in its JSON, to a circuit's text or a netlist file.
-
-    yosys -p "read_verilog block.v; synth -flatten -top block; abc -g gates; opt_clean -purge; write_json block.json"
-    tools/from_yosys.py block.json                                      prints the circuit's text
-    tools/from_yosys.py block.json circuit.txt --delays delays.txt      writes it, with delays by cell
-    tools/from_yosys.py block.json circuit.netlist                      writes a netlist file
+"""The circuit of a block that yosys mapped to simple gates, out of its JSON.
 
 Without a table of delays every pin has delay 1. In the table a line is a cell and the delay of its pins, or a cell, one
 of its pins and that pin's delay; `#` starts a comment. The inverted pin of $_ANDNOT_ and $_ORNOT_ becomes a NOT of
-delay 0, a constant a gate of delay 0 over the first input. Flip-flops, latches and feedback loops are turned away:
-document 01 knows none. Rests on tools/circuit.py for the circuit.
+delay 0, a constant a gate of delay 0 over the first input. Cells that keep state and feedback loops are turned away:
+a block's delay is that of the logic between its flip-flops.
 """
 
-import argparse
 import json
 import re
-import sys
 
-from circuit import Drawing, Mistake, read_words, write_file, write_text
-from document import write_netlist
+from . import files
+from .circuit import Drawing, Mistake
+from .netlist import MOST_DELAY
+from .trouble import Slip
+from .words import lines_of, number_in, printable, shown
 
-# Each cell's kind and its pins in document 01's order; ! stands before a pin that the cell inverts.
+# Each cell's kind and its pins in the order of a netlist; ! stands before a pin that the cell inverts.
 CELLS = {
     "$_BUF_": ("BUF", ("A",)),
     "$_NOT_": ("NOT", ("A",)),
@@ -34,7 +29,11 @@ CELLS = {
     "$_ORNOT_": ("OR", ("A", "!B")),
     "$_MUX_": ("MUX", ("S", "A", "B")),
 }
-KEEPS_STATE = re.compile(r"\$.*(ff|latch)|\$_?sr|\$mem", re.IGNORECASE)
+# yosys's own cells that keep state, word by word ($dff, $_DFFE_PP_) and mapped to gates ($_SDFF_PP0_, $_DLATCH_N_).
+KEEPS_STATE = re.compile(r"\$(ff|(a|s|al)?dff(e|ce|sr|sre)?|sdffce|a?dlatch(sr)?|sr|mem\w*)"
+                         r"|\$_(FF|(AL|S)?DFF(E|CE|SR|SRE)?|DLATCH(SR)?|SR)(_[NP01]+)?_", re.IGNORECASE)
+CUT_FLIP_FLOPS = ("cut the flip-flops into inputs and outputs by yosys's `dffunmap; expose -evert-dff` before "
+                  "`abc -g gates`")
 
 # The gate over one input twice that gives each constant, at time 0.
 CONSTANTS = {"0": ("zero", "XOR"), "1": ("one", "XNOR")}
@@ -45,28 +44,72 @@ CONSTANTS = {"0": ("zero", "XOR"), "1": ("one", "XNOR")}
 
 def read_module(path, top):
     """The module that yosys calls top, or the one that is named."""
+    data = files.read_bytes(path, files.MOST_NETLIST)
     try:
-        modules = json.loads(read_words(path))["modules"]
-    except (ValueError, KeyError, TypeError):
-        raise Mistake(f"{path}: is no JSON of yosys") from None
+        modules = dictionary(json.loads(files.text_of(path, data)), "modules")
+    except (ValueError, RecursionError, Mistake):
+        raise Slip(f"{files.name_of(path)}: is no JSON of yosys, as its write_json writes it") from None
     if top is None:
-        tops = [name for name in modules if "top" in modules[name].get("attributes", {})] or list(modules)
+        tops = [name for name in modules if marked_top(modules[name])] or list(modules)
         if len(tops) != 1:
-            raise Mistake(f"{path}: name one module by --top: {' '.join(tops)}")
+            names = " ".join(printable(name) for name in tops) or "there is none"
+            raise Slip(f"{files.name_of(path)}: name one module by --top: {names}")
         top = tops[0]
     if top not in modules:
-        raise Mistake(f"{path}: has no module {top}")
+        raise Slip(f"{files.name_of(path)}: has no module {shown(top)}")
     return modules[top]
 
 
-def check_cells(cells):
-    """Every cell is one of the table's."""
-    for name, cell in cells.items():
-        if KEEPS_STATE.match(cell["type"]):
-            raise Mistake(f"cell {name} keeps state ({cell['type']}): only a block without flip-flops has a delay here")
-        if cell["type"] not in CELLS:
-            raise Mistake(f"cell {name} is no simple gate ({cell['type']}): map the block by synth -flatten; "
-                          "abc -g gates")
+def marked_top(module):
+    """Whether yosys marked a module as top."""
+    return isinstance(module, dict) and isinstance(module.get("attributes"), dict) and "top" in module["attributes"]
+
+
+def dictionary(holder, name):
+    """An entry of a dictionary that is one itself."""
+    if not isinstance(holder, dict) or not isinstance(holder.get(name), dict):
+        raise Mistake(f"has no {name}, which yosys writes")
+    return holder[name]
+
+
+def checked_bits(holder, name):
+    """A list of bits: numbers of wires, or constants."""
+    bits = holder.get(name) if isinstance(holder, dict) else None
+    if not isinstance(bits, list) or not all(type(bit) is int or isinstance(bit, str) for bit in bits):
+        raise Mistake(f"{shown(name)} is no list of bits, as yosys writes it")
+    return bits
+
+
+def check_module(module):
+    """The parts of a module that are read are as yosys writes them."""
+    for name, port in dictionary(module, "ports").items():
+        checked_bits(port, "bits")
+        if port.get("direction") not in ("input", "output", "inout"):
+            raise Mistake(f"port {shown(name)} has no direction")
+    for name, cell in dictionary(module, "cells").items():
+        check_cell(name, cell)
+    if isinstance(module.get("netnames"), dict):
+        for net in module["netnames"].values():
+            checked_bits(net, "bits")
+
+
+def check_cell(name, cell):
+    """A cell is one of the table's, each pin on one bit."""
+    if not isinstance(cell, dict) or not isinstance(cell.get("type"), str):
+        raise Mistake(f"cell {shown(name)} has no type")
+    kind = cell["type"]
+    if KEEPS_STATE.fullmatch(kind):
+        raise Mistake(f"cell {shown(name)} keeps state ({printable(kind)}): {CUT_FLIP_FLOPS}")
+    if kind.startswith("$paramod") or not kind.startswith("$"):
+        raise Mistake(f"cell {shown(name)} is a module or a library's cell ({printable(kind)}): flatten and map the "
+                      "block by synth -flatten; abc -g gates")
+    if kind not in CELLS:
+        raise Mistake(f"cell {shown(name)} is no simple gate ({printable(kind)}): map the block by synth -flatten; "
+                      "abc -g gates")
+    connections = dictionary(cell, "connections")
+    for pin in [pin.lstrip("!") for pin in CELLS[kind][1]] + ["Y"]:
+        if len(checked_bits(connections, pin)) != 1:
+            raise Mistake(f"pin {pin} of cell {shown(name)} is not one bit")
 
 
 def bits_of(ports, direction):
@@ -75,7 +118,7 @@ def bits_of(ports, direction):
 
 
 def sources(cell):
-    """The bit that each pin of a cell reads, in document 01's order."""
+    """The bit that each pin of a cell reads, in the order of a netlist."""
     return [cell["connections"][pin.lstrip("!")][0] for pin in CELLS[cell["type"]][1]]
 
 
@@ -89,14 +132,21 @@ def result(cell):
 
 def names_of(module):
     """A name for each bit that has one in the source: the ports' names first."""
-    names = {}
-    nets = [net for net in module.get("netnames", {}).items() if not net[1].get("hide_name")]
+    names, netnames = {}, module.get("netnames")
+    nets = [net for net in netnames.items() if not net[1].get("hide_name")] if isinstance(netnames, dict) else []
     for name, net in list(module["ports"].items()) + nets:
+        first = net.get("offset") if type(net.get("offset")) is int else 0
         for place, bit in enumerate(net["bits"]):
             at = len(net["bits"]) - 1 - place if net.get("upto") else place
-            own = name if len(net["bits"]) == 1 else f"{name}[{net.get('offset', 0) + at}]"
-            names.setdefault(bit, re.sub(r"[\s(),:=#]", "_", own))
+            own = name if len(net["bits"]) == 1 else f"{name}[{first + at}]"
+            names.setdefault(bit, plain(own))
     return names
+
+
+def plain(name):
+    """A name without what a circuit's text keeps for itself."""
+    return "".join("_" if letter in "(),:=#" or letter.isspace() or not letter.isprintable() else letter
+                   for letter in name) or "_"
 
 
 class Names:
@@ -116,7 +166,7 @@ class Names:
 
     def __getitem__(self, bit):
         if bit not in self.of_bit:
-            self.of_bit[bit] = self.new(f"n{bit}")
+            self.of_bit[bit] = self.new(plain(f"n{bit}"))
         return self.of_bit[bit]
 
 
@@ -126,14 +176,19 @@ class Names:
 def read_delays(path):
     """The delays in a table, by cell, or by cell and pin."""
     delays = {}
-    for number, line in enumerate(read_words(path).splitlines() if path else [], 1):
+    if path is None:
+        return delays
+    text = files.text_of(path, files.read_bytes(path, files.MOST_TEXT))
+    for number, line in enumerate(lines_of(text), 1):
         words = line.partition("#")[0].split()
         if not words:
             continue
         pins = [pin.lstrip("!") for pin in CELLS[words[0]][1]] if words[0] in CELLS else []
-        if not pins or len(words) not in (2, 3) or not words[-1].isdecimal() or not set(words[1:-1]) <= set(pins):
-            raise Mistake(f"{path}, line {number}: `{line}` is no cell and delay, nor cell, pin and delay")
-        delays[tuple(words[:-1])] = int(words[-1])
+        delay = number_in(words[-1], MOST_DELAY)
+        if not pins or len(words) not in (2, 3) or delay is None or not set(words[1:-1]) <= set(pins):
+            raise Slip(f"{files.name_of(path)}, line {number}: {shown(line)} is no cell and delay from 0 to "
+                       f"{MOST_DELAY}, nor cell, pin and delay")
+        delays[tuple(words[:-1])] = delay
     return delays
 
 
@@ -149,10 +204,14 @@ class Conversion:
     """The circuit of a module, as far as its cells have been placed."""
 
     def __init__(self, module, delays):
-        check_cells(module["cells"])
+        check_module(module)
         self.module, self.delays = module, delays
         self.names, self.drawing = Names(module), Drawing()
         self.inputs = bits_of(module["ports"], "input")
+        if not self.inputs:
+            raise Mistake("the block has no input")
+        if not bits_of(module["ports"], "output"):
+            raise Mistake("the block has no output")
         self.placed = {}
         self.drawing.add_inputs([self.names[bit] for bit in self.inputs])
         for bit in self.inputs:
@@ -197,30 +256,34 @@ class Conversion:
         while waiting:
             ready = [name for name, cell in waiting.items() if set(sources(cell)) <= set(self.placed)]
             if not ready:
-                raise Mistake(f"feedback loop through cell {on_loop(waiting)}: document 01 knows none")
+                raise Mistake(f"feedback loop through cell {shown(on_loop(waiting))}: a circuit has none")
             for name in ready:
                 self.add_cell(waiting.pop(name))
 
     def check_driven(self, cells):
-        """Every bit that is read is driven."""
-        driven = set(self.placed) | {result(cell) for cell in cells.values()}
+        """Every bit that is read is driven, and by one cell."""
+        driven = set(self.placed)
+        for name, cell in cells.items():
+            if result(cell) in driven:
+                raise Mistake(f"cell {shown(name)} drives a bit that is driven already ({self.names[result(cell)]})")
+            driven.add(result(cell))
         for name, cell in cells.items():
             for bit in sources(cell):
                 if bit not in driven:
-                    raise Mistake(f"cell {name} reads a bit that nothing drives ({bit})")
+                    raise Mistake(f"cell {shown(name)} reads a bit that nothing drives ({printable(str(bit))})")
         for bit in bits_of(self.module["ports"], "output"):
             if bit not in driven:
                 raise Mistake(f"nothing drives an output ({self.names[bit]})")
 
-    def circuit(self):
-        """The whole circuit."""
+    def whole(self):
+        """The netlist and its names."""
         if bits_of(self.module["ports"], "inout"):
             raise Mistake("a port is both input and output")
         self.add_constants()
         self.add_cells()
         outputs = dict.fromkeys(self.placed[bit] for bit in bits_of(self.module["ports"], "output"))
         self.drawing.add_outputs(outputs)
-        return self.drawing.circuit()
+        return self.drawing.whole()
 
 
 def on_loop(cells):
@@ -234,38 +297,9 @@ def on_loop(cells):
 
 
 def convert(path, top=None, delays_path=None):
-    """The circuit of a block; a Mistake says the file."""
+    """The netlist and the names of a block's circuit."""
     delays, module = read_delays(delays_path), read_module(path, top)
     try:
-        return Conversion(module, delays).circuit()
+        return Conversion(module, delays).whole()
     except Mistake as mistake:
-        raise Mistake(f"{path}: {mistake}") from None
-
-
-def write(path, circuit):
-    """A circuit to a file, or its text to the terminal."""
-    if path is None:
-        sys.stdout.write(write_text(circuit))
-    elif path.endswith(".txt"):
-        write_file(path, write_text(circuit).encode())
-    else:
-        write_file(path, write_netlist(circuit.netlist))
-
-
-def main():
-    """The command."""
-    parser = argparse.ArgumentParser(description=__doc__, formatter_class=argparse.RawDescriptionHelpFormatter)
-    parser.add_argument("block", help="yosys's JSON")
-    parser.add_argument("circuit", nargs="?", help="the file to write: a text where its name ends in .txt")
-    parser.add_argument("--delays", help="the table of delays")
-    parser.add_argument("--top", help="the module")
-    asked = parser.parse_args()
-    try:
-        write(asked.circuit, convert(asked.block, asked.top, asked.delays))
-    except Mistake as mistake:
-        print(f"from_yosys.py: {mistake}", file=sys.stderr)
-        sys.exit(2)
-
-
-if __name__ == "__main__":
-    main()
+        raise Slip(f"{files.name_of(path)}: {mistake}") from None

@@ -1,0 +1,205 @@
+"""The text format for circuits that people write, and a circuit as the command holds it.
+
+    # Circuit A
+    input a b
+    n2 = BUF(a:3)
+    n3 = AND(n2:1, b:1)
+    n4 = OR(n3:1, b:1)
+    output n4
+
+One statement a line; `#` starts a comment. Inputs come first. A pin is the name of an input or of a gate on a line
+above, a colon, and the pin's delay, 0 to 999. MUX takes its pins as select, a, b. A name is any run of printable
+characters but blanks and ( ) , : = #. Outputs may be named in any order.
+"""
+
+import re
+from collections import namedtuple
+
+from . import files
+from .netlist import (KINDS, MOST_DELAY, MOST_GATES, MOST_INPUTS, MOST_OUTPUTS, MOST_PINS, PIN_COUNTS, Gate, Netlist,
+                      Pin, read_netlist, write_netlist)
+from .refusals import of_netlist
+from .trouble import Slip
+from .words import lines_of, number_in, printable, shown
+
+NAME = r"[^\s(),:=#]+"
+GATE_LINE = re.compile(rf"({NAME})\s*=\s*({NAME})\s*\((.*)\)")
+PIN_WORD = re.compile(rf"({NAME})\s*:\s*(\S+)")
+
+# A circuit out of a file: the netlist file's bytes, the netlist, the name of each node, inputs first;
+# `plain` says that the names are n0, n1 and so on, as a netlist file holds none.
+Circuit = namedtuple("Circuit", "path data netlist names plain")
+
+
+class Mistake(Exception):
+    """What is wrong with a statement."""
+
+
+# Reading the text
+
+
+class Drawing:
+    """The circuit as far as it has been read."""
+
+    def __init__(self):
+        self.number_of = {}
+        self.gates = []
+        self.outputs = set()
+        self.inputs = self.pins = 0
+
+    def name_node(self, name):
+        """The next node gets a name of its own."""
+        if not re.fullmatch(NAME, name) or not name.isprintable():
+            raise Mistake(f"{shown(name)} is no name: blanks and ( ) , : = # are kept for the format")
+        if name in self.number_of:
+            raise Mistake(f"{name} is named twice")
+        self.number_of[name] = len(self.number_of)
+
+    def node(self, name):
+        """The number of a node that an earlier line named."""
+        if name not in self.number_of:
+            raise Mistake(f"{printable(name)} is no input and no gate of a line above")
+        return self.number_of[name]
+
+    def add_inputs(self, names):
+        """A line `input NAME ...`."""
+        if self.gates:
+            raise Mistake("inputs come before the first gate")
+        for name in names:
+            if re.fullmatch(rf"{NAME}:[0-9]+", name):
+                raise Mistake(f"{shown(name)}: an input's arrival time is not read yet; every input arrives at 0")
+            self.name_node(name)
+        self.inputs = len(self.number_of)
+        at_most("inputs", self.inputs, MOST_INPUTS)
+
+    def add_outputs(self, names):
+        """A line `output NAME ...`."""
+        for name in names:
+            if self.node(name) in self.outputs:
+                raise Mistake(f"{name} is an output already")
+            self.outputs.add(self.node(name))
+        at_most("outputs", len(self.outputs), MOST_OUTPUTS)
+
+    def add_gate(self, name, kind, pin_words):
+        """A line `NAME = KIND(PIN, ...)`."""
+        if kind not in KINDS:
+            raise Mistake(f"{shown(kind)} is no kind of gate; the kinds are {' '.join(KINDS)}")
+        pins = [self.pin(word.strip()) for word in pin_words.split(",")]
+        least, most = PIN_COUNTS[kind]
+        if not least <= len(pins) <= most:
+            wanted = f"{least} to {most}" if least < most else least
+            raise Mistake(f"{kind} takes {wanted} pins and has {len(pins)}")
+        self.name_node(name)
+        self.gates.append(Gate(kind, pins))
+        self.pins += len(pins)
+        at_most("gates", len(self.gates), MOST_GATES)
+        at_most("pins", self.pins, MOST_PINS)
+
+    def pin(self, word):
+        """A pin, `NAME:DELAY`."""
+        found = PIN_WORD.fullmatch(word)
+        if not found:
+            raise Mistake(f"{shown(word)} is no pin; a pin is a name, a colon and a delay, as b:1")
+        name, delay = found.groups()
+        if re.fullmatch(r"[0-9]+/[0-9]+", delay):
+            raise Mistake(f"{shown(word)}: a delay for rising and one for falling are not read yet; write one")
+        if re.fullmatch(r"[0-9]+", delay) and number_in(delay, MOST_DELAY) is None:
+            raise Mistake(f"the delay {shown(delay)} of pin {printable(name)} is over {MOST_DELAY}")
+        if not re.fullmatch(r"[0-9]+", delay):
+            raise Mistake(f"{shown(word)} is no pin; a pin is a name, a colon and a delay, as b:1")
+        return Pin(self.node(name), number_in(delay, MOST_DELAY))
+
+    def whole(self):
+        """The netlist and its names, when every line has been read."""
+        if not self.inputs:
+            raise Mistake("the circuit has no input")
+        if not self.outputs:
+            raise Mistake("the circuit has no output")
+        return Netlist(self.inputs, self.gates, sorted(self.outputs)), list(self.number_of)
+
+
+def at_most(what, number, most):
+    """A count that is limited."""
+    if number > most:
+        raise Mistake(f"more than {most} {what}")
+
+
+def read_line(drawing, line):
+    """One statement, without its comment."""
+    gate = GATE_LINE.fullmatch(line)
+    words = line.split()
+    if gate:
+        drawing.add_gate(*gate.groups())
+    elif words[:1] == ["input"] and words[1:]:
+        drawing.add_inputs(words[1:])
+    elif words[:1] == ["output"] and words[1:]:
+        drawing.add_outputs(words[1:])
+    elif words:
+        raise Mistake(f"{shown(line)} is no statement; write input NAME, NAME = KIND(NAME:DELAY, ...) or output NAME")
+
+
+def read_text(text):
+    """The netlist and the names that a text draws; a Mistake says its line, counted from 1."""
+    drawing, number = Drawing(), 0
+    try:
+        for number, line in enumerate(lines_of(text), 1):
+            read_line(drawing, line.partition("#")[0].strip())
+        return drawing.whole()
+    except Mistake as mistake:
+        raise Mistake(f"line {number}: {mistake}") from None
+
+
+# Writing the text
+
+
+def write_text(netlist, names):
+    """The text that draws a circuit."""
+    lines = ["input " + " ".join(names[:netlist.inputs])]
+    for name, gate in zip(names[netlist.inputs:], netlist.gates):
+        pins = ", ".join(f"{names[pin.driver]}:{pin.delay}" for pin in gate.pins)
+        lines.append(f"{name} = {gate.kind}({pins})")
+    lines.append("output " + " ".join(names[node] for node in netlist.outputs))
+    return "".join(line + "\n" for line in lines)
+
+
+def plain_names(netlist):
+    """A netlist file holds no names: a node is called n and its number."""
+    return [f"n{node}" for node in range(netlist.inputs + len(netlist.gates))]
+
+
+# Circuits out of files
+
+
+def load(path, library):
+    """The circuit in a file, a text or a netlist file. The library alone says whether bytes are a netlist."""
+    data = files.read_bytes(path, files.MOST_NETLIST)
+    kind = files.kind_of(data)
+    if kind in (files.CERTIFICATE, files.FORMULA, files.YOSYS):
+        hint = "; convert it by: buzzlumen from-yosys" if kind == files.YOSYS else ""
+        raise Slip(f"{files.name_of(path)}: is {kind}, not a circuit{hint}")
+    if kind == files.CIRCUIT:
+        return load_text(path, data)
+    return load_netlist(path, data, library)
+
+
+def load_text(path, data):
+    """The circuit that a text draws."""
+    if len(data) > files.MOST_TEXT:
+        raise Slip(files.too_large(path, files.MOST_TEXT))
+    if not data.strip():
+        raise Slip(f"{files.name_of(path)}: is empty")
+    try:
+        netlist, names = read_text(files.text_of(path, data))
+    except Mistake as mistake:
+        raise Slip(f"{files.name_of(path)}, {mistake}") from None
+    return Circuit(path, write_netlist(netlist), netlist, names, False)
+
+
+def load_netlist(path, data, library):
+    """The circuit in a netlist file; the refusal where it is none."""
+    refusal = library.refusal_of(data)
+    if refusal:
+        refusal.words = f"{files.name_of(path)}: {of_netlist(refusal.number, refusal.place, data)}"
+        raise refusal
+    netlist = read_netlist(data)
+    return Circuit(path, data, netlist, plain_names(netlist), True)

@@ -1,0 +1,308 @@
+"""The proved library, called through one small program that stays alive for as long as there are questions.
+
+The program is command/host.c over the library's archive. In the tree it stands in target/command/, and is built there
+when it is missing or older than its parts; in a package it stands beside this one or in /usr/lib/buzzlumen. The
+variable BUZZLUMEN_HOST names another. It is x86-64 code: another machine runs it under qemu-x86_64.
+Every call lends the room that it needs: what is not known beforehand is asked for, by lending less and reading the
+refusal ROOM.
+"""
+
+import array
+import os
+import struct
+import subprocess
+import sys
+from collections import namedtuple
+
+from .machine import folder_for_a_while, on_path
+from .refusals import ROOM, VECTOR, in_words
+from .trouble import OfTheMachine, Refused
+
+EVALUATE, BUILD, CHECK, JUDGE, SHORTEN, WALK, WRITE_FORMULA = range(1, 8)
+NUMBER, BYTES, WORDS, LENT_BYTES, LENT_WORDS = range(1, 6)
+
+MOST_NODES = 512
+MOST_PAIR_NUMBERS = 131072
+MOST_VARIABLES = 100000
+FIRST_FORMULA_ROOM = 2 ** 18
+
+# What the calls give. Lists of numbers are arrays of 32-bit numbers.
+Settled = namedtuple("Settled", "time values times")
+Built = namedtuple("Built", "variables clauses formula pairs")
+
+PACKAGE = os.path.dirname(os.path.realpath(__file__))
+BESIDE = os.path.dirname(PACKAGE)
+TREE = os.path.dirname(BESIDE)
+INSTALLED = (os.path.join(BESIDE, "host"), "/usr/lib/buzzlumen/host")
+SOURCES = ("command/host.c", "command/shorten.c", "command/shorten.h", "include/buzzlumen.h")
+ARCHIVE = "target/staticlib/libbuzzlumen.a"
+BUILT = "target/command/host"
+
+
+class Refusal(Refused):
+    """The library's refusal: its number and place, and its cause in words once someone knows it."""
+
+    def __init__(self, number, place):
+        super().__init__(f"refused {number} {place}")
+        self.number, self.place, self.words = number, place, in_words(number, place)
+
+
+# The program
+
+
+def is_native():
+    """Whether this machine runs x86-64 code itself."""
+    return os.uname().machine in ("x86_64", "amd64")
+
+
+def runner():
+    """What stands before the program's name to run it here."""
+    if is_native():
+        return []
+    if not on_path("qemu-x86_64"):
+        raise OfTheMachine("the library is x86-64 code and qemu-x86_64 is not here: install Debian's qemu-user")
+    return ["qemu-x86_64"]
+
+
+def compiler():
+    """The C compiler that makes x86-64 code."""
+    command, packages = ["gcc"], "gcc and libc6-dev"
+    if not is_native():
+        command, packages = ["x86_64-linux-gnu-gcc", "-static"], "gcc-x86-64-linux-gnu and libc6-dev-amd64-cross"
+    if not on_path(command[0]):
+        raise OfTheMachine(f"{command[0]} is not here to build the host program: install Debian's {packages}")
+    return command
+
+
+def host_program():
+    """Where the program stands: as the variable says, built in the tree, or in a package."""
+    named = os.environ.get("BUZZLUMEN_HOST")
+    if named:
+        if not os.path.isfile(named):
+            raise OfTheMachine(f"BUZZLUMEN_HOST names {named}, which is no file")
+        return named
+    if os.path.isfile(in_tree(SOURCES[0])):
+        return built_in_tree()
+    for program in INSTALLED:
+        if os.path.isfile(program):
+            return program
+    raise OfTheMachine(f"the host program is not here; looked for {' and '.join(INSTALLED)}")
+
+
+def in_tree(part):
+    """The path of a part of the tree."""
+    return os.path.join(TREE, part)
+
+
+def built_in_tree():
+    """The tree's own program, built anew where it is older than its parts."""
+    program = in_tree(BUILT)
+    if not os.path.isfile(in_tree(ARCHIVE)):
+        raise OfTheMachine(f"the library is not built yet: there is no {ARCHIVE}. Build it by: rt staticlib buzzlumen")
+    parts = [in_tree(part) for part in SOURCES + (ARCHIVE,)]
+    if os.path.isfile(program) and all(os.path.getmtime(part) <= os.path.getmtime(program) for part in parts):
+        return program
+    return build(program)
+
+
+def build(program):
+    """Build the program beside its place, then put it there in one step."""
+    try:
+        os.makedirs(os.path.dirname(program), exist_ok=True)
+        with folder_for_a_while(os.path.dirname(program)) as folder:
+            made = os.path.join(folder, "host")
+            sources = [in_tree(part) for part in SOURCES + (ARCHIVE,) if not part.endswith(".h")]
+            command = compiler() + ["-O2", "-I", in_tree("include"), "-o", made, *sources]
+            ended = subprocess.run(command, capture_output=True, text=True, check=False)
+            if ended.returncode:
+                raise OfTheMachine(f"the host program does not build: {last_line(ended.stderr)}")
+            os.replace(made, program)
+    except OSError as error:
+        raise OfTheMachine(f"the host program cannot be built as {program}: {error.strerror}") from None
+    return program
+
+
+def last_line(text):
+    """The last line of a text that says something."""
+    lines = [line for line in text.splitlines() if line.strip()]
+    return lines[-1].strip() if lines else "it says nothing"
+
+
+# Requests and answers
+
+
+def number(value):
+    """An argument: one number."""
+    return struct.pack("<IQ", NUMBER, value)
+
+
+def given_bytes(values):
+    """An argument: bytes to read."""
+    return struct.pack("<IQ", BYTES, len(values)) + bytes(values)
+
+
+def given_words(values):
+    """An argument: 32-bit numbers with a sign, to read."""
+    return struct.pack("<IQ", WORDS, len(values)) + little(array.array("i", values)).tobytes()
+
+
+def lent_bytes(length):
+    """An argument: room for so many bytes."""
+    return struct.pack("<IQ", LENT_BYTES, length)
+
+
+def lent_words(length):
+    """An argument: room for so many 32-bit numbers."""
+    return struct.pack("<IQ", LENT_WORDS, length)
+
+
+def little(numbers):
+    """Numbers in the order of bytes that the host has."""
+    if sys.byteorder == "big":
+        numbers.byteswap()
+    return numbers
+
+
+class Library:
+    """The running program; started at the first call."""
+
+    def __init__(self):
+        self.process = None
+        # The numbers that the largest formula so far took, and some.
+        self.room = FIRST_FORMULA_ROOM
+
+    def start(self):
+        """Start the program."""
+        command = [*runner(), host_program()]
+        try:
+            # A group of its own: an interrupt at the terminal is the command's to handle.
+            self.process = subprocess.Popen(command, stdin=subprocess.PIPE, stdout=subprocess.PIPE,
+                                            stderr=subprocess.DEVNULL, start_new_session=True)
+        except OSError as error:
+            raise OfTheMachine(f"the host {command[-1]} does not start: {error.strerror}") from None
+
+    def close(self):
+        """End the program."""
+        if self.process:
+            self.process.kill()
+            self.process.wait()
+            self.process = None
+
+    def __enter__(self):
+        return self
+
+    def __exit__(self, *_):
+        self.close()
+
+    def call(self, function, arguments, lent):
+        """The fields of an answer and the content of each lent slice; `lent` has a letter for each, B or i."""
+        if self.process is None:
+            self.start()
+        try:
+            self.process.stdin.write(struct.pack("<II", function, len(arguments)))
+            for argument in arguments:
+                self.process.stdin.write(argument)
+            self.process.stdin.flush()
+        except OSError:
+            raise self.ended() from None
+        count, = struct.unpack("<I", self.read(4))
+        fields = struct.unpack(f"<{count}Q", self.read(8 * count))
+        return fields, [self.read_slice(letter) for letter in lent]
+
+    def read(self, count):
+        """So many bytes of an answer."""
+        data = self.process.stdout.read(count)
+        if len(data) < count:
+            raise self.ended()
+        return data
+
+    def read_slice(self, letter):
+        """The elements of one lent slice."""
+        length, = struct.unpack("<Q", self.read(8))
+        numbers = array.array(letter)
+        numbers.frombytes(self.read(length * numbers.itemsize))
+        return little(numbers)
+
+    def ended(self):
+        """What to say where the program broke off."""
+        self.process.kill()
+        status = self.process.wait()
+        self.process = None
+        causes = {4: "memory is short", 127: "it was not found"}
+        return OfTheMachine(f"the host program broke off: {causes.get(status, f'status {status}')}")
+
+    def with_room(self, call):
+        """The answer of a call that takes room for a formula, without its number and place; where the room is too
+        small the refusal says how much it must be."""
+        (refusal, place, *fields), lent = call(self.room)
+        if refusal == ROOM and place > self.room:
+            self.room = place + place // 4
+            (refusal, place, *fields), lent = call(self.room)
+        accept(refusal, place)
+        return fields, lent
+
+    # The four functions of the library.
+
+    def evaluate(self, netlist, vector):
+        """Values and settling times under a vector."""
+        arguments = [given_bytes(netlist), given_bytes(vector), lent_bytes(MOST_NODES), lent_words(MOST_NODES)]
+        (refusal, place, time), (values, times) = self.call(EVALUATE, arguments, "BI")
+        accept(refusal, place)
+        return Settled(time, values, times)
+
+    def refusal_of(self, netlist):
+        """The refusal of bytes that are no netlist, or None: a vector without a value is refused after all of those."""
+        try:
+            self.evaluate(netlist, b"")
+        except Refusal as refusal:
+            return refusal if refusal.number != VECTOR else None
+        return None
+
+    def build(self, netlist, target):
+        """The formula for a target."""
+        (variables, clauses, numbers, count), (pairs, formula) = self.with_room(lambda room: self.call(
+            BUILD, [given_bytes(netlist), number(target), lent_words(MOST_PAIR_NUMBERS), lent_words(room)], "Ii"))
+        return Built(variables, clauses, formula[:numbers], pairs[:2 * count])
+
+    def check(self, variables, formula, refutation):
+        """Whether a refutation of a formula passes."""
+        room = min(variables, MOST_VARIABLES) + 1
+        arguments = [number(variables), given_words(formula), given_words(refutation), lent_bytes(room)]
+        (refusal, place), _ = self.call(CHECK, arguments, "B")
+        accept(refusal, place)
+
+    def judge(self, netlist, delay, vector, refutation):
+        """Whether a delay, a vector and a refutation are a certificate."""
+        self.with_room(lambda room: self.call(
+            JUDGE, [given_bytes(netlist), number(delay), given_bytes(vector), given_words(refutation),
+                    lent_bytes(MOST_NODES), lent_words(MOST_NODES), lent_words(MOST_PAIR_NUMBERS), lent_words(room),
+                    lent_bytes(MOST_VARIABLES + 1)], "BIIiB"))
+
+    # What the program has beside the library's functions, for a search.
+
+    def write_formula(self, netlist, target, path):
+        """The formula for a target, to a file as DIMACS CNF."""
+        (wrong,), _ = self.with_room(lambda room: self.call(
+            WRITE_FORMULA, [given_bytes(netlist), number(target), given_bytes(os.fsencode(path) + b"\0"),
+                            lent_words(MOST_PAIR_NUMBERS), lent_words(room)], "Ii"))
+        if wrong:
+            raise OfTheMachine(f"the formula for T={target} cannot be written to {path}: is the disk full?")
+
+    def shorten(self, variables, formula, refutation):
+        """A refutation without the steps that it does not need; the given one where it does not hold."""
+        arguments = [number(variables), given_words(formula), given_words(refutation), lent_words(len(refutation))]
+        (length,), (shorter,) = self.call(SHORTEN, arguments, "i")
+        return shorter[:length] if length else refutation
+
+    def walk(self, netlist, inputs, enough=None):
+        """Of all vectors in order, 0 before 1, the first that settles latest, or at `enough` or later: time, vector."""
+        arguments = [given_bytes(netlist), number(enough or 0), number(enough is not None), lent_bytes(inputs)]
+        (refusal, place, time), (vector,) = self.call(WALK, arguments, "B")
+        accept(refusal, place)
+        return time, bytes(vector)
+
+
+def accept(refusal, place):
+    """Nothing, where the library accepts."""
+    if refusal:
+        raise Refusal(refusal, place)

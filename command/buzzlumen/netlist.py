@@ -1,0 +1,68 @@
+"""A netlist as data, and the bytes of its file (docs/RULES.md, "The netlist file").
+
+What is read here is only for showing and searching; whether the bytes are a netlist is the library's word alone.
+"""
+
+import struct
+from collections import namedtuple
+
+KINDS = ("BUF", "NOT", "AND", "NAND", "OR", "NOR", "XOR", "XNOR", "MUX")
+PIN_COUNTS = {"BUF": (1, 1), "NOT": (1, 1), "AND": (2, 8), "NAND": (2, 8), "OR": (2, 8), "NOR": (2, 8),
+              "XOR": (2, 2), "XNOR": (2, 2), "MUX": (3, 3)}
+
+TRAILER = struct.Struct("<IHHHHH")
+MOST_INPUTS, MOST_GATES, MOST_PINS, MOST_OUTPUTS, MOST_DELAY = 64, 448, 2048, 64, 999
+VERSION = 1
+
+Pin = namedtuple("Pin", "driver delay")
+Gate = namedtuple("Gate", "kind pins")
+Netlist = namedtuple("Netlist", "inputs gates outputs")
+
+
+def write_netlist(netlist):
+    """The bytes of a netlist file."""
+    gate_table, pin_table = bytearray(), bytearray()
+    first = 0
+    for gate in netlist.gates:
+        gate_table += struct.pack("<BBH", KINDS.index(gate.kind) + 1, len(gate.pins), first)
+        for pin in gate.pins:
+            pin_table += struct.pack("<HH", pin.driver, pin.delay)
+        first += len(gate.pins)
+    output_table = b"".join(struct.pack("<H", node) for node in netlist.outputs)
+    tables = bytes(gate_table + pin_table) + output_table
+    counts = (netlist.inputs, len(netlist.gates), first, len(netlist.outputs))
+    return tables + TRAILER.pack(len(tables), *counts, VERSION)
+
+
+def read_netlist(data):
+    """The netlist in bytes that the library has accepted."""
+    end = len(data) - TRAILER.size
+    back, inputs, gate_count, pin_count, output_count, _ = TRAILER.unpack_from(data, end)
+    tables = data[end - back:end]
+    rows = [struct.unpack_from("<BBH", tables, 4 * gate) for gate in range(gate_count)]
+    pins = [Pin(*struct.unpack_from("<HH", tables, 4 * (gate_count + pin))) for pin in range(pin_count)]
+    outputs = struct.unpack_from(f"<{output_count}H", tables, 4 * (gate_count + pin_count))
+    gates = [Gate(KINDS[kind - 1], pins[first:first + count]) for kind, count, first in rows]
+    return Netlist(inputs, gates, list(outputs))
+
+
+def looks_like_netlist(data):
+    """Whether the last bytes are a trailer that points back to tables of its own counts, right or wrong inside."""
+    if len(data) < TRAILER.size:
+        return False
+    back, inputs, gates, pins, outputs, version = TRAILER.unpack_from(data, len(data) - TRAILER.size)
+    return version == VERSION and back == 4 * gates + 4 * pins + 2 * outputs and inputs > 0
+
+
+def tops_of(netlist):
+    """The longest sum of delays to each node, 0 for an input."""
+    tops = [0] * netlist.inputs
+    for gate in netlist.gates:
+        tops.append(max(tops[pin.driver] + pin.delay for pin in gate.pins))
+    return tops
+
+
+def longest_path(netlist):
+    """The longest sum of delays to an output."""
+    tops = tops_of(netlist)
+    return max(tops[node] for node in netlist.outputs)
