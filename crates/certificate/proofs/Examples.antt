@@ -8,7 +8,7 @@ use native.Mathlib.Omega.{arith}
 use lib.IntN.{ℤ}
 use Rattle.basics.proofs.Lists.{map-each}
 use Rattle.netlist.specs.Netlist.{Circuit}
-use Rattle.netlist.specs.Kinds.{fewest, most, kindOf}
+use Rattle.netlist.specs.Kinds.{kinds, kindRow}
 use Rattle.netlist.specs.File.{tableBytes, shapeOf, gateAt, pinAt, cellOf, cellAt, netlistAt, pinsFrom, circuitOf}
 use Rattle.netlist.specs.Open.{
   netlistRows,
@@ -134,7 +134,7 @@ answerTo c = checkedTo (c .file) (c .delay) (c .vector) (c .refutation) (c .room
 computed : map answerTo cases ≡ map (λ (c : Case). c .answer) cases
 unfolding
     cases circuitA wire netlistRows firstWrong countWrong backWrong pinsBefore gateWrong gatePlace sumWrong pinsAt
-    pinWrong pinPlace outputWrong outputPlace fewest most kindOf tableBytes shapeOf gateAt pinAt pinsFrom cellOf cellAt
+    pinWrong pinPlace outputWrong outputPlace kinds kindRow tableBytes shapeOf gateAt pinAt pinsFrom cellOf cellAt
     netlistAt gateValue settles grow valuesOf timesOf topsOf circuitTime byteWrong givenRows flat clausesFrom
     isTrue isFree assign say pass refutes assert follows verdict refutationForm firstBeyond ended lastRow firstEmpty
     asked timesAt pairList placeOf pairsFor clauseOf gateClauses late pairClauses formula pairVariable

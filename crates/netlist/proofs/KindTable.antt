@@ -1,19 +1,32 @@
 -- The table of kinds: its rule is one test that the prover computes at each of its forty digits. Assumes nothing.
-use mathlib.Core.Path.{_≡_, refl, sym, ap₂, _∙_, subst}
+use mathlib.Core.Path.{_≡_, refl, sym, ap, ap₂, _∙_, subst}
 use mathlib.Core.Bool.{Bool, true, false}
 use mathlib.Core.List.{List, [], _∷_}
 use Prim.Native.Nat.{ℕ, zero, suc, _≤_, _<_}
 use native.Mathlib.Omega.{arith}
 use lib.Dec.{T, eqb, leb, eqb→eq, le→leb}
-use lib.ListN.{getD}
-use borrow.Author.Tests.{ne-eqb}
+use lib.ListN.{getD, List·getD-eq-default}
 use Rattle.basics.specs.Lists.{all, upFrom}
 use Rattle.basics.proofs.Truth.{and-both}
 use Rattle.basics.proofs.Lists.{all-at, upFrom-mem}
 use Rattle.basics.proofs.Table.{rule-at}
 use Rattle.netlist.specs.Netlist.{takes}
 use Rattle.netlist.specs.declared.Kind.the-variants.{Mux}
-use Rattle.netlist.specs.Kinds.{fewest, most, kindOf, controlling, forced, bit, recordOf, entryOf, digitOf}
+use Rattle.netlist.specs.Kinds.{
+  KindRow,
+  kinds,
+  noKind,
+  kindRow,
+  fewest,
+  most,
+  kindOf,
+  controlling,
+  forced,
+  bit,
+  recordOf,
+  entryOf,
+  digitOf,
+}
 
 -- the code's table: a column a number, with a digit for each kind
 abbrev pub table : List ℕ
@@ -24,28 +37,18 @@ right : ℕ → ℕ → Bool
 right column x = all (λ kind. eqb (digitOf x kind) (entryOf kind column)) (upFrom 0 10)
 
 table-right : (column : ℕ) → column < 4 → T (right column (getD table column 0))
-unfolding right fewest most kindOf entryOf
+unfolding right kinds kindRow entryOf
 table-right column h = rule-at right table tt column h
 
--- a number from 10 on names no kind: its row is the first
-no-kind : (kind column : ℕ) → 10 ≤ kind → entryOf kind column ≡ entryOf 0 column
-unfolding fewest most kindOf entryOf
-no-kind kind column h =
-    rw (
-      ne-eqb kind 1 (λ e. omega arith),
-      ne-eqb kind 2 (λ e. omega arith),
-      ne-eqb kind 3 (λ e. omega arith),
-      ne-eqb kind 4 (λ e. omega arith),
-      ne-eqb kind 5 (λ e. omega arith),
-      ne-eqb kind 6 (λ e. omega arith),
-      ne-eqb kind 7 (λ e. omega arith),
-      ne-eqb kind 8 (λ e. omega arith),
-      ne-eqb kind 9 (λ e. omega arith),
-    )
+-- a number from 10 on names no kind
+none-row : (kind : ℕ) → 10 ≤ kind → kindRow kind ≡ noKind
+unfolding kindRow kinds
+none-row zero h = absurd (omega arith)
+none-row (suc n) h = List·getD-eq-default kinds noKind {n = n} (omega arith)
 
 -- a kind's record by its own c and k
 record-is : (kind : ℕ) → kind < 10 → recordOf kind (controlling (kindOf kind)) (forced (kindOf kind)) ≡ kindOf kind
-unfolding kindOf
+unfolding kinds kindRow
 record-is zero h = refl
 record-is (suc zero) h = refl
 record-is (suc (suc zero)) h = refl
@@ -57,21 +60,6 @@ record-is (suc (suc (suc (suc (suc (suc (suc zero))))))) h = refl
 record-is (suc (suc (suc (suc (suc (suc (suc (suc zero)))))))) h = refl
 record-is (suc (suc (suc (suc (suc (suc (suc (suc (suc zero))))))))) h = refl
 record-is (suc (suc (suc (suc (suc (suc (suc (suc (suc (suc n)))))))))) h = absurd (omega arith)
-
--- a number from 9 on is MUX, or names no kind and has its record
-mux-kind : (kind : ℕ) → 9 ≤ kind → kindOf kind ≡ Mux
-unfolding kindOf
-mux-kind kind h =
-    rw (
-      ne-eqb kind 1 (λ e. omega arith),
-      ne-eqb kind 2 (λ e. omega arith),
-      ne-eqb kind 3 (λ e. omega arith),
-      ne-eqb kind 4 (λ e. omega arith),
-      ne-eqb kind 5 (λ e. omega arith),
-      ne-eqb kind 6 (λ e. omega arith),
-      ne-eqb kind 7 (λ e. omega arith),
-      ne-eqb kind 8 (λ e. omega arith),
-    )
 
 bit-back : (b : Bool) → eqb (bit b) 1 ≡ b
 bit-back true = refl
@@ -110,21 +98,15 @@ record-at kind h =
     (k-back kind _ (entry-at kind 3 h (omega arith)))
     ∙ record-is kind h
 
-no-kind-fewest : (kind : ℕ) → 10 ≤ kind → fewest kind ≡ 1
-unfolding entryOf fewest
-no-kind-fewest kind h = no-kind kind 0 h
-
-no-kind-most : (kind : ℕ) → 10 ≤ kind → most kind ≡ 0
-unfolding entryOf most
-no-kind-most kind h = no-kind kind 1 h
-
 -- a number that names no kind
 pub row-of-none : (kind : ℕ) → 10 ≤ kind → (1 ≡ fewest kind) × (0 ≡ most kind) × (Mux ≡ kindOf kind)
-row-of-none kind h = (sym (no-kind-fewest kind h), sym (no-kind-most kind h), sym (mux-kind kind (omega arith)))
+row-of-none kind h =
+    let e = sym (none-row kind h) in
+    (ap (λ (r : KindRow). r .least) e, ap (λ (r : KindRow). r .greatest) e, ap (λ (r : KindRow). r .record-is) e)
 
 -- a pin count that the table allows is one that the kind takes
 pub kind-takes : (kind n : ℕ) → fewest kind ≤ n → n ≤ most kind → T (takes (kindOf kind) n)
-unfolding fewest most kindOf
+unfolding kinds kindRow
 kind-takes zero n l u = absurd (omega arith)
 kind-takes (suc zero) n l u = and-both (leb 1 n) (leb n 8) (le→leb 1 n l) (le→leb n 8 (omega arith))
 kind-takes (suc (suc zero)) n l u = and-both (leb 1 n) (leb n 8) (le→leb 1 n l) (le→leb n 8 (omega arith))
@@ -145,4 +127,5 @@ kind-takes (suc (suc (suc (suc (suc (suc (suc (suc (suc zero))))))))) n l u =
     subst (λ (k : ℕ). T (eqb k 3)) (sym e) tt
 kind-takes (suc (suc (suc (suc (suc (suc (suc (suc (suc (suc k)))))))))) n l u =
     let kind : ℕ = suc (suc (suc (suc (suc (suc (suc (suc (suc (suc k))))))))) in
-    absurd (omega (arith, no-kind-fewest kind (omega arith), no-kind-most kind (omega arith)))
+    let none = row-of-none kind (omega arith) in
+    absurd (omega (arith, none .0, none .1))

@@ -1,48 +1,56 @@
--- Document 01's table of kinds: pins, c and k. Interface: fewest, most, kindOf, bit. The rest serves the code: a kind's
--- c and k by themselves, its record by these, and the table in one, with a digit of one of its columns.
+-- The table of kinds, nine rows: pins, and what a gate of the kind does. Interface: kinds, kindRow, fewest, most,
+-- kindOf, bit. The rest serves the code: a kind's c and k by themselves, its record by these, and the table in one,
+-- with a digit of one of its columns.
 use mathlib.Core.Bool.{Bool, true, false, cond}
-use Prim.Native.Nat.{ℕ, _*_, _/_, _%_, _^_}
+use mathlib.Core.List.{List, [], _∷_}
+use Prim.Native.Nat.{ℕ, zero, suc, _*_, _/_, _%_, _^_}
 use lib.Dec.{eqb, ltb}
+use lib.ListN.{getD}
 use Rattle.netlist.specs.declared.Kind.{Kind}
 use Rattle.netlist.specs.declared.Kind.the-variants.{Simple, Parity, Mux}
 
--- column "Pins", the least; 1 for a number that names no kind
-unfoldable pub fewest : ℕ → ℕ
-fewest kind =
-    cond (eqb kind 1) 1
-    (cond (eqb kind 2) 1
-    (cond (eqb kind 3) 2
-    (cond (eqb kind 4) 2
-    (cond (eqb kind 5) 2
-    (cond (eqb kind 6) 2
-    (cond (eqb kind 7) 2
-    (cond (eqb kind 8) 2
-    (cond (eqb kind 9) 3 1))))))))
+-- a row: the fewest pins, the most, and the kind's record; a simple kind holds c and k, a parity kind the value that
+-- equal pins give
+pub record KindRow : Type 0 where
+  pub least : ℕ
+  pub greatest : ℕ
+  pub record-is : Kind
 
--- column "Pins", the most; 0 for a number that names no kind, so that no pin count is right for it
-unfoldable pub most : ℕ → ℕ
-most kind =
-    cond (eqb kind 1) 1
-    (cond (eqb kind 2) 1
-    (cond (eqb kind 3) 8
-    (cond (eqb kind 4) 8
-    (cond (eqb kind 5) 8
-    (cond (eqb kind 6) 8
-    (cond (eqb kind 7) 2
-    (cond (eqb kind 8) 2
-    (cond (eqb kind 9) 3 0))))))))
+-- from so many pins to so many, and the record
+abbrev pins : ℕ → ℕ → Kind → KindRow
+pins least greatest kind = record { least = least; greatest = greatest; record-is = kind }
 
--- columns "c" and "k" of the simple kinds; a parity gate carries its value for equal pins, 0 for XOR and 1 for XNOR
-unfoldable pub kindOf : ℕ → Kind
-kindOf kind =
-    cond (eqb kind 1) (Simple false false)
-    (cond (eqb kind 2) (Simple false true)
-    (cond (eqb kind 3) (Simple false false)
-    (cond (eqb kind 4) (Simple false true)
-    (cond (eqb kind 5) (Simple true true)
-    (cond (eqb kind 6) (Simple true false)
-    (cond (eqb kind 7) (Parity false)
-    (cond (eqb kind 8) (Parity true) Mux)))))))
+-- kinds 1 to 9: BUF, NOT, AND, NAND, OR, NOR, XOR, XNOR, MUX
+unfoldable pub kinds : List KindRow
+kinds =
+    pins 1 1 (Simple false false)
+    ∷ pins 1 1 (Simple false true)
+    ∷ pins 2 8 (Simple false false)
+    ∷ pins 2 8 (Simple false true)
+    ∷ pins 2 8 (Simple true true)
+    ∷ pins 2 8 (Simple true false)
+    ∷ pins 2 2 (Parity false)
+    ∷ pins 2 2 (Parity true)
+    ∷ pins 3 3 Mux ∷ []
+
+-- the row of a number that names no kind: no pin count is right for it
+abbrev pub noKind : KindRow
+noKind = pins 1 0 Mux
+
+-- the row of a kind's number
+unfoldable pub kindRow : ℕ → KindRow
+kindRow zero = noKind
+kindRow (suc n) = getD kinds n noKind
+
+-- a kind's fewest pins, its most, and its record
+abbrev pub fewest : ℕ → ℕ
+fewest kind = kindRow kind .least
+
+abbrev pub most : ℕ → ℕ
+most kind = kindRow kind .greatest
+
+abbrev pub kindOf : ℕ → Kind
+kindOf kind = kindRow kind .record-is
 
 -- a Bool as a number
 abbrev pub bit : Bool → ℕ

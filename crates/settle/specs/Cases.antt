@@ -4,7 +4,7 @@ use mathlib.Core.Path.{_≡_, refl}
 use mathlib.Core.List.{List, [], _∷_, map}
 use Prim.Native.Nat.{ℕ}
 use lib.ListN.{length}
-use Rattle.netlist.specs.Kinds.{fewest, most, kindOf}
+use Rattle.netlist.specs.Kinds.{kinds, kindRow}
 use Rattle.netlist.specs.File.{tableBytes, shapeOf, gateAt, pinAt, cellOf, cellAt, netlistAt, circuitOf, pinsFrom}
 use Rattle.netlist.specs.Open.{
   netlistRows,
@@ -80,7 +80,7 @@ run c = evaluation (c .file) (c .vector) (length (c .expected .values)) (length 
 pub cases-hold : map run cases ≡ map (λ c. c .expected) cases
 unfolding
     cases circuitA xorTwice muxOfThree netlistRows firstWrong countWrong backWrong pinsBefore gateWrong gatePlace
-    sumWrong pinsAt pinWrong pinPlace outputWrong outputPlace fewest most kindOf tableBytes shapeOf gateAt pinAt
+    sumWrong pinsAt pinWrong pinPlace outputWrong outputPlace kinds kindRow tableBytes shapeOf gateAt pinAt
     pinsFrom cellOf cellAt netlistAt gateValue settles grow valuesOf timesOf circuitTime evaluation givenRows settled
     byteWrong
 cases-hold = refl
