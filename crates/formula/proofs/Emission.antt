@@ -1,13 +1,13 @@
--- A run of tokens: runs follow one another, and a loop puts one run for each entry of a list. `done` are the entries
--- that were put, `left` those to come. Assumes nothing.
+-- A run of tokens: runs follow one another, and a loop puts one run for each number from 0 on. Assumes nothing.
 use mathlib.Core.Path.{_≡_, refl, sym, ap, ap₂, _∙_, subst}
-use mathlib.Core.List.{List, [], _∷_, _++_, map, map-append, append-assoc, append-nil}
+use mathlib.Core.List.{List, [], _∷_, _++_, map, map-append, append-nil}
 use Prim.Native.Nat.{ℕ, _+_, _*_, _≤_}
 use native.Mathlib.Omega.{arith}
 use lib.IntN.{ℤ}
 use lib.ListN.{length, length-append, length-map}
-use Rattle.basics.specs.Lists.{concatMap}
+use Rattle.basics.specs.Lists.{concatMap, upFrom}
 use Rattle.basics.proofs.Lists.{concatMap-append}
+use Rattle.netlist.proofs.Ranges.{upFrom-append}
 use Rattle.clauses.specs.Codes.{written}
 use Rattle.clauses.proofs.Written.{written-append, written-length}
 use Rattle.formula.specs.declared.Emitted.{Emitted}
@@ -55,50 +55,40 @@ module _ {most : ℕ} {xs : List Token} {before now : List ℤ} {from at : Emitt
   pub emits-length : Emits most xs before from now at → length now ≡ length before
   emits-length a = ap length (a .is) ∙ written-length before (from .numbers) (map tokenCode xs)
 
--- ---- one run for each entry of a list
+-- ---- one run for each number from 0 on
 
--- the loop's invariant: i entries are done, each with at most `each` tokens
-pub record Emitting {A : Type 0} (each : ℕ) (run : A → List Token) (whole left : List A) (i : ℕ)
-    (before : List ℤ) (from : Emitted) (now : List ℤ) (at : Emitted) : Type 0 where
-  pub done : List A
-  pub makes : done ++ left ≡ whole
-  pub emits : Emits (i * each) (concatMap run done) before from now at
+-- the loop's invariant: the runs below i were put, each with at most `each` tokens
+pub record Emitting (each : ℕ) (run : ℕ → List Token) (i : ℕ) (before : List ℤ) (from : Emitted) (now : List ℤ)
+    (at : Emitted) : Type 0 where
+  pub emits : Emits (i * each) (concatMap run (upFrom 0 i)) before from now at
 
-pub emitting-starts : {A : Type 0} (each : ℕ) (run : A → List Token) (whole : List A) (before : List ℤ) (at : Emitted) →
-    at .clauses ≤ at .numbers → Emitting each run whole whole 0 before at before at
-emitting-starts each run whole before at h =
-    record { done = []; makes = refl; emits = emits-as (0 * each) (emits-none before at h) refl (omega arith) }
+pub emitting-starts : (each : ℕ) (run : ℕ → List Token) (before : List ℤ) (at : Emitted) → at .clauses ≤ at .numbers →
+    Emitting each run 0 before at before at
+emitting-starts each run before at h = record { emits = emits-as (0 * each) (emits-none before at h) refl (omega arith) }
 
-module _ {A : Type 0} {each : ℕ} {run : A → List Token} {whole left : List A} {i : ℕ} {before now : List ℤ}
-    {from at : Emitted} where
-  pub emitting-more : (x : A) {left′ : List A} {after : List ℤ} {to : Emitted} →
-      Emitting each run whole left i before from now at → left ≡ x ∷ left′ → Emits each (run x) now at after to →
-      Emitting each run whole left′ (i + 1) before from after to
-  emitting-more x {left′} {after} {to} b e r =
+module _ {each : ℕ} {run : ℕ → List Token} {i : ℕ} {before now : List ℤ} {from at : Emitted} where
+  pub emitting-more : {after : List ℤ} {to : Emitted} → Emitting each run i before from now at →
+      Emits each (run i) now at after to → Emitting each run (i + 1) before from after to
+  emitting-more b r =
+      let z : 0 + i ≡ i = omega arith in
+      let e : upFrom 0 (i + 1) ≡ upFrom 0 i ++ (i ∷ []) =
+      upFrom-append 0 i 1 ∙ ap (λ (n : ℕ). upFrom 0 i ++ (n ∷ [])) z in
       record {
-        done = b .done ++ (x ∷ []);
-        makes =
-            append-assoc (b .done) (x ∷ []) left′
-            ∙ ap (λ (t : List A). b .done ++ t) (sym e) ∙ b .makes;
         emits =
             emits-as ((i + 1) * each) (emits-then (b .emits) r)
-            (ap (λ (t : List Token). concatMap run (b .done) ++ t) (sym (append-nil (run x)))
-            ∙ sym (concatMap-append run (b .done) (x ∷ [])))
+            (ap (λ (t : List Token). concatMap run (upFrom 0 i) ++ t) (sym (append-nil (run i)))
+            ∙ sym (concatMap-append run (upFrom 0 i) (i ∷ []))
+            ∙ ap (concatMap run) (sym e))
             (omega arith);
       }
 
-  pub emitting-ends : Emitting each run whole left i before from now at → left ≡ [] →
-      Emits (i * each) (concatMap run whole) before from now at
-  emitting-ends b e =
-      let w : b .done ≡ whole =
-      sym (append-nil (b .done)) ∙ ap (λ (t : List A). b .done ++ t) (sym e) ∙ b .makes
-      in
-      emits-as (i * each) (b .emits) (ap (concatMap run) w) (omega arith)
+  -- after the last
+  pub emitting-ends : (count most : ℕ) → Emitting each run i before from now at → i ≤ count → count ≤ i →
+      count * each ≤ most → Emits most (concatMap run (upFrom 0 count)) before from now at
+  emitting-ends count most b l h m =
+      let e : i ≡ count = omega arith in
+      emits-as most (subst (λ (n : ℕ). Emits (n * each) (concatMap run (upFrom 0 n)) before from now at) e (b .emits))
+      refl m
 
-  pub emitting-length : Emitting each run whole left i before from now at → length now ≡ length before
+  pub emitting-length : Emitting each run i before from now at → length now ≡ length before
   emitting-length b = emits-length (b .emits)
-
-  -- the bounds that the next step leans on
-  pub emitting-few : Emitting each run whole left i before from now at →
-      (at .numbers ≤ from .numbers + i * each) × (at .clauses ≤ at .numbers)
-  emitting-few b = (b .emits .few, b .emits .fewer)

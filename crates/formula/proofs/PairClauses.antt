@@ -1,64 +1,99 @@
--- One pair of the table after the other: what the code reads of it, and that what it puts is what the definition says.
--- Assumes nothing.
+-- A gate that is read, and one pair of the table after the other: what the code leans on there, and that what it puts for
+-- the pair is what the definition says. Assumes nothing.
 use mathlib.Core.Path.{_≡_, sym, ap, ap₂, _∙_, subst}
-use mathlib.Core.List.{List, [], _∷_}
+use mathlib.Core.List.{List}
 use Prim.Native.Nat.{ℕ, suc, _+_, _-_, _*_, _/_, _≤_, _<_}
 use native.Mathlib.Omega.{arith}
-use native.Mathlib.Numerals.{add-one}
-use lib.ListN.{length, getD, drop, drop-of-length-le}
-use lib.Seq.{drop-cons}
+use lib.ListN.{length, getD}
 use Rattle.netlist.specs.declared.Gate.{Gate}
-use Rattle.netlist.specs.declared.Shape.{Shape}
 use Rattle.netlist.specs.File.{gateAt, cellOf, cellAt, pinsFrom}
+use Rattle.netlist.specs.Holds.{Holds}
+use Rattle.netlist.proofs.GateRead.{gate-fields, gate-within, gate-takes}
+use Rattle.netlist.proofs.Valid.{takes-few}
 use Rattle.pairs.specs.Pairs.{placeOf}
-use Rattle.pairs.specs.Table.{pairsIn}
-use Rattle.pairs.proofs.Flat.{pairs-at, pairs-length}
-use Rattle.formula.specs.Late.{variableIn, clausesIn, pairRun, Drivers, Stands, AllStand}
+use Rattle.pairs.specs.Table.{pairsIn, pairAt}
+use Rattle.pairs.proofs.Flat.{pairs-at}
+use Rattle.formula.specs.declared.Moment.{Moment}
+use Rattle.formula.specs.declared.Side.the-variants.{Pins}
+use Rattle.formula.specs.Late.{
+  Lent,
+  nodesIn,
+  pairsCount,
+  variableIn,
+  clausesIn,
+  runOf,
+  pairRun,
+  Ready,
+  Served,
+  Stands,
+  AllStand,
+}
 
-module _ (table : List ℕ) where
-  -- pair k, and those after it
-  pub pairs-next : (k node t : ℕ) → k < length table / 2 → node ≡ getD table (k * 2) 0 →
-      t ≡ getD table (k * 2 + 1) 0 → drop k (pairsIn table) ≡ (node, t) ∷ drop (k + 1) (pairsIn table)
-  pairs-next k node t h e f =
-      let l : k < length (pairsIn table) = omega (arith, pairs-length table) in
-      rw (add-one k, e, f)
-      (drop-cons (pairsIn table) k (0, 0) l
-      ∙ ap (λ (x : ℕ × ℕ). x ∷ drop (suc k) (pairsIn table)) (pairs-at table k h))
+-- what stands at the place that is read
+pub record Here (file : List ℕ) (l : Lent) (k : ℕ) (pair : Moment) : Type 0 where
+  pub stands : Stands file l k (pair .node) (pair .time)
+  pub is : pairAt (pairsIn (l .table)) k ≡ (pair .node, pair .time)
 
-  -- after the last, none is left
-  pub pairs-done : (k : ℕ) → length table / 2 ≤ k → drop k (pairsIn table) ≡ []
-  pairs-done k h =
-      let l : length (pairsIn table) ≤ k = omega (arith, pairs-length table) in
-      drop-of-length-le (pairsIn table) {i = k} l
+pub stands-here : {file : List ℕ} {l : Lent} (k : ℕ) (pair : Moment) → AllStand file l → k < pairsCount l →
+    (pair .node ≡ getD (l .table) (k * 2) 0) × (pair .time ≡ getD (l .table) (k * 2 + 1) 0) → Here file l k pair
+stands-here {file} {l} k pair a h e =
+    let p : pairAt (pairsIn (l .table)) k ≡ (pair .node, pair .time) =
+    pairs-at (l .table) k h ∙ ap₂ (λ (m n : ℕ). (m, n)) (sym (e .0)) (sym (e .1)) in
+    record { stands = subst (λ (x : ℕ × ℕ). Stands file l k (x .0) (x .1)) p (a .stands k h); is = p }
 
-module _ (file : List ℕ) (shape : Shape) (tops table : List ℕ) where
-  -- what stands at the places that are read
-  pub stands-here : (k node t : ℕ) → AllStand file shape tops table → k < length table / 2 →
-      node ≡ getD table (k * 2) 0 → t ≡ getD table (k * 2 + 1) 0 → Stands file shape tops table k node t
-  stands-here k node t a h e f =
-      let p = pairs-at table k h in
-      subst (λ (x : ℕ × ℕ). Stands file shape tops table k (x .0) (x .1))
-      (p ∙ ap₂ (λ (m n : ℕ). (m, n)) (sym e) (sym f)) (a .stands k h)
+-- what is known of the gate that is read
+pub record Gated (file : List ℕ) (l : Lent) (gate : Gate) (t : ℕ) : Type 0 where
+  pub drivers : Served file l Pins (gate .first) (gate .count) t
+  pub within : gate .first + gate .count ≤ 2048
+  pub few : gate .count ≤ 8
 
-  -- the gate that is read has those drivers
-  pub drivers-here : {k node t : ℕ} (gate : Gate) → Stands file shape tops table k node t →
-      gate ≡ gateAt file shape (node - shape .inputs) → Drivers file shape tops table (gate .first) (gate .count) t
+-- a gate's own clauses ask at time 0, at which no pair is wanted
+pub gated-now : {file : List ℕ} {l : Lent} {starts : List ℕ} {number : ℕ} (gate : Gate) → Holds file (l .shape) →
+    Ready l starts → number < l .shape .gates → gate ≡ gateAt file (l .shape) number → Gated file l gate 0
+gated-now {file} {l} {starts} {number} gate holds ready h e =
+    let fields = gate-fields file (l .shape) number gate e in
+    let w = gate-within gate holds h e in
+    record {
+      drivers =
+          record {
+            within = w;
+            asks =
+                λ entry low high.
+                record {
+                  node-has =
+                      omega (
+                        arith,
+                        ready .slices .tops-all,
+                        holds .drivers-below number entry h (omega (arith, fields .0)) (omega (arith, fields .0, fields .1)),
+                      );
+                  listed = λ x y z. absurd (omega arith);
+                };
+          };
+      within = omega (arith, holds .pins-few);
+      few = takes-few (gate .kind) (gate .count) (gate-takes gate holds h e);
+    }
+
+module _ {file : List ℕ} {l : Lent} {k node t : ℕ} (gate : Gate) (s : Stands file l k node t)
+    (e : gate ≡ gateAt file (l .shape) (node - l .shape .inputs)) where
+  pub gated : Holds file (l .shape) → Gated file l gate t
   unfolding gateAt
-  drivers-here {k} {node} {t} gate s e =
-      subst (λ (g : Gate). Drivers file shape tops table (g .first) (g .count) t) (sym e) (s .drivers)
+  gated holds =
+      let here : node - l .shape .inputs < l .shape .gates = omega (arith, s .low, s .high) in
+      let w = gate-within gate holds here e in
+      record {
+        drivers = subst (λ (g : Gate). Served file l Pins (g .first) (g .count) t) (sym e) (s .drivers);
+        within = omega (arith, holds .pins-few);
+        few = takes-few (gate .kind) (gate .count) (gate-takes gate holds here e);
+      }
 
   -- and what is put for it is the pair's run
-  pub pair-here : {k node t : ℕ} (gate : Gate) → Stands file shape tops table k node t →
-      gate ≡ gateAt file shape (node - shape .inputs) →
-      clausesIn shape tops table (shape .inputs + shape .gates + k + 1) (gate .kind)
-      (pinsFrom file shape (gate .first) (gate .count)) t
-      ≡ pairRun file shape tops table (node, t)
+  pub pair-here : (pairAt (pairsIn (l .table)) k ≡ (node, t)) →
+      clausesIn l (nodesIn l + k + 1) (gate .kind) (pinsFrom file (l .shape) (gate .first) (gate .count)) t
+      ≡ pairRun file l k
   unfolding cellAt cellOf pinsFrom variableIn
-  pair-here {k} {node} {t} gate s e =
+  pair-here p =
       let o = s .own in
-      let v : shape .inputs + shape .gates + k + 1 ≡ suc (shape .inputs + shape .gates + placeOf node t (pairsIn table))
-      =
-      omega arith
-      in
+      let v : nodesIn l + k + 1 ≡ suc (nodesIn l + placeOf node t (pairsIn (l .table))) = omega arith in
       ap₂ (λ (n : ℕ) (g : Gate).
-      clausesIn shape tops table n (g .kind) (pinsFrom file shape (g .first) (g .count)) t) v e
+      clausesIn l n (g .kind) (pinsFrom file (l .shape) (g .first) (g .count)) t) v e
+      ∙ sym (ap (runOf file l) p)

@@ -7,12 +7,11 @@ use lib.IntN.{ℤ, pos}
 use lib.ListN.{length, take, replicate, length-append, length-replicate}
 use lib.Seq.{take-at}
 use borrow.Author.Tests.{lt-ltb, le-ltb}
-use Rattle.basics.specs.Lists.{concatMap}
 use Rattle.refusal.specs.declared.Refusal.{Refusal}
 use Rattle.refusal.specs.declared.Refusal.the-variants.{Pairs, Room}
 use Rattle.netlist.specs.declared.Shape.{Shape}
 use Rattle.netlist.specs.declared.Opened.the-variants.{Accepted, Refused as Rejected}
-use Rattle.netlist.specs.Netlist.{nodes, nodeCount, Circuit}
+use Rattle.netlist.specs.Netlist.{nodeCount, Circuit}
 use Rattle.netlist.specs.File.{netlistAt, circuitAt}
 use Rattle.netlist.specs.Open.{openOf}
 use Rattle.netlist.specs.Holds.{Holds}
@@ -22,7 +21,6 @@ use Rattle.clauses.specs.Clauses.{flat}
 use Rattle.pairs.specs.declared.Listed.{Listed}
 use Rattle.pairs.specs.declared.Listed.the-variants.{Count, TooMany}
 use Rattle.pairs.specs.Pairs.{flatPairs, pairsFor}
-use Rattle.pairs.specs.Table.{pairsIn}
 use Rattle.pairs.specs.Promise.{pairsAt, Held}
 use Rattle.pairs.proofs.Flat.{flat-length}
 use Rattle.pairs.proofs.Whole.{held-count, held-too-many}
@@ -43,8 +41,9 @@ use Rattle.formula.specs.Promise.{
   buildingOf,
   building,
 }
-use Rattle.formula.specs.Emission.{start, cellRun, Emits}
-use Rattle.formula.specs.Late.{pairRun, outputsLate, AllStand, OutputsAsk, Slices}
+use Rattle.formula.specs.Emission.{start, Emits}
+use Rattle.formula.specs.declared.Side.the-variants.{Outputs}
+use Rattle.formula.specs.Late.{lent, wholeRun, AllStand, Served, Slices}
 use Rattle.formula.proofs.Emission.{emits-as}
 use Rattle.formula.proofs.Numbers.{Numbered, emits-numbers}
 use Rattle.formula.proofs.Table.{topsAt, tableAt, all-stand, outputs-ask, slices}
@@ -94,24 +93,19 @@ module _ (file : List ℕ) (shape : Shape) (target : ℕ) (tops table : List ℕ
     (f : table ≡ tableAt file shape target) where
   -- is what `emit` asks
   pub lent-ready : Holds file shape → length (pairsAt file shape target) ≤ 65536 →
-      Slices shape tops table × AllStand file shape tops table × OutputsAsk file shape tops table target
+      Slices (lent shape tops table) × AllStand file (lent shape tops table)
+      × Served file (lent shape tops table) Outputs 0 (shape .outputs) target
   lent-ready ok h =
       rw (e, f) (slices file shape target ok h, all-stand file shape target ok, outputs-ask file shape target ok)
 
   -- and what it puts are the formula's numbers
   pub lent-numbers : {most : ℕ} {before after : List ℤ} {to : Emitted} →
-      Emits most
-      ((concatMap cellRun (nodes (netlistAt file shape))
-      ++ concatMap (pairRun file shape tops table) (pairsIn table))
-      ++ outputsLate file shape tops table target) before start after to →
+      Emits most (wholeRun file (lent shape tops table) target) before start after to →
       Numbered (formulaFor (circuitAt file shape) target) before after to
   lent-numbers {most} x =
       emits-numbers (formulaFor (circuitAt file shape) target)
       (emits-as most x
-      (ap₂ (λ (t b : List ℕ).
-      (concatMap cellRun (nodes (netlistAt file shape)) ++ concatMap (pairRun file shape t b) (pairsIn b))
-      ++ outputsLate file shape t b target) e f
-      ∙ whole-tokens file shape target)
+      (ap₂ (λ (t b : List ℕ). wholeRun file (lent shape t b) target) e f ∙ whole-tokens file shape target)
       (omega arith))
 
 -- ---- the two ends of `write`

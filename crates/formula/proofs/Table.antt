@@ -9,22 +9,9 @@ use lib.ListN.{length, getD, length-replicate}
 use lib.Seq.{take-all}
 use Rattle.netlist.specs.declared.Shape.{Shape}
 use Rattle.netlist.specs.Netlist.{nodes}
-use Rattle.netlist.specs.File.{
-  firstAt,
-  countAt,
-  driverAt,
-  delayAt,
-  outputAt,
-  gateAt,
-  pinAt,
-  cellAt,
-  netlistAt,
-  circuitAt,
-}
+use Rattle.netlist.specs.File.{firstAt, countAt, driverAt, delayAt, outputAt, pinAt, cellAt, netlistAt, circuitAt}
 use Rattle.netlist.specs.Holds.{Holds}
 use Rattle.netlist.proofs.Entries.{node-count, node-has, pin-has, output-has}
-use Rattle.netlist.proofs.GateRead.{gate-takes}
-use Rattle.netlist.proofs.Valid.{takes-few}
 use Rattle.settle.specs.Settling.{topsOf}
 use Rattle.settle.proofs.Nodes.{tops-length}
 use Rattle.pairs.specs.Pairs.{flatPairs, placeOf}
@@ -34,7 +21,8 @@ use Rattle.pairs.proofs.Flat.{flat-length, pairs-flat, mem-at}
 use Rattle.pairs.proofs.Closed.{pair-for, place-below, place-at, output-for, driver-for}
 use Rattle.pairs.proofs.Search.{rising-sorted, lists-sorted}
 use Rattle.pairs.proofs.Whole.{lists-for}
-use Rattle.formula.specs.Late.{Asking, Drivers, AllStand, OutputsAsk, Slices}
+use Rattle.formula.specs.declared.Side.the-variants.{Pins, Outputs}
+use Rattle.formula.specs.Late.{Lent, lent, Asking, Served, AllStand, Slices}
 
 -- the tops of an accepted file
 abbrev pub topsAt : List ℕ → Shape → List ℕ
@@ -43,6 +31,10 @@ topsAt file shape = topsOf (circuitAt file shape)
 -- the numbers of its pairs
 abbrev pub tableAt : List ℕ → Shape → ℕ → List ℕ
 tableAt file shape target = flatPairs (pairsAt file shape target)
+
+-- both
+abbrev pub lentAt : List ℕ → Shape → ℕ → Lent
+lentAt file shape target = lent shape (topsAt file shape) (tableAt file shape target)
 
 -- each pair of a sorted list has its own place
 own-place : (l : List (ℕ × ℕ)) → Sorted l → (k : ℕ) → k < length l →
@@ -82,7 +74,7 @@ module _ (file : List ℕ) (shape : Shape) (target : ℕ) (ok : Holds file shape
   asking : (node t : ℕ) → node < shape .inputs + shape .gates →
       (shape .inputs ≤ node → 0 < t → t ≤ getD (topsAt file shape) node 0 →
       List·Memᴰ (node, t) (pairsAt file shape target)) →
-      Asking shape (topsAt file shape) (tableAt file shape target) node t
+      Asking (lentAt file shape target) node t
   asking node t h m =
       record {
         node-has = omega (arith, all-tops);
@@ -108,22 +100,14 @@ module _ (file : List ℕ) (shape : Shape) (target : ℕ) (ok : Holds file shape
         subst (λ (n : ℕ). List·Memᴰ (n, cellAt file shape (f - shape .inputs)) (nodes (netlistAt file shape))) e
         (node-has file shape (f - shape .inputs) gate-here)
 
-    count-few : countAt file shape (f - shape .inputs) < 256
-    unfolding gateAt
-    count-few =
-        let gate = gateAt file shape (f - shape .inputs) in
-        let few = takes-few (gate .kind) (gate .count) (gate-takes gate ok gate-here refl) in
-        omega arith
-
-    drivers : Drivers file shape (topsAt file shape) (tableAt file shape target)
-        (firstAt file shape (f - shape .inputs)) (countAt file shape (f - shape .inputs)) t
+    drivers : Served file (lentAt file shape target) Pins (firstAt file shape (f - shape .inputs))
+        (countAt file shape (f - shape .inputs)) t
     unfolding netlistAt pinAt
     drivers =
         let net = netlistAt file shape in
         let g = f - shape .inputs in
         record {
           within = ok .pins-within g gate-here;
-          few = count-few;
           asks =
               λ pin l h.
               let b = ok .drivers-below g pin gate-here l h in
@@ -133,7 +117,7 @@ module _ (file : List ℕ) (shape : Shape) (target : ℕ) (ok : Holds file shape
               (pinAt file shape pin) (pin-has file shape g pin l h) x y z);
         }
 
-  pub all-stand : AllStand file shape (topsAt file shape) (tableAt file shape target)
+  pub all-stand : AllStand file (lentAt file shape target)
   all-stand =
       record {
         stands =
@@ -150,13 +134,15 @@ module _ (file : List ℕ) (shape : Shape) (target : ℕ) (ok : Holds file shape
             });
       }
 
-  pub outputs-ask : OutputsAsk file shape (topsAt file shape) (tableAt file shape target) target
+  pub outputs-ask : Served file (lentAt file shape target) Outputs 0 (shape .outputs) target
   unfolding netlistAt
   outputs-ask =
       let net = netlistAt file shape in
       record {
+        within = omega arith;
         asks =
-            λ position h.
+            λ position low high.
+            let h : position < shape .outputs = omega arith in
             asking (outputAt file shape position) target (ok .outputs-nodes position h)
             (λ x y z.
             output-for (circuitAt file shape) (ok .valid) target (outputAt file shape position)
@@ -164,7 +150,7 @@ module _ (file : List ℕ) (shape : Shape) (target : ℕ) (ok : Holds file shape
       }
 
   pub slices : length (pairsAt file shape target) ≤ 65536 →
-      Slices shape (topsAt file shape) (tableAt file shape target)
+      Slices (lentAt file shape target)
   slices h =
       record {
         nodes-few = omega (arith, ok .inputs-few, ok .gates-few);

@@ -14,9 +14,10 @@ use mathlib.Core.List.{
   List·Memᴰ·head,
   List·Memᴰ·tail,
 }
-use Prim.Native.Nat.{ℕ, suc, _+_, _-_}
+use Prim.Native.Nat.{ℕ, zero, suc, _+_, _-_}
 use native.Mathlib.Omega.{arith}
-use Rattle.basics.specs.Lists.{concatMap}
+use lib.ListN.{length, getD, length-append}
+use Rattle.basics.specs.Lists.{concatMap, upFrom, numbered}
 use Rattle.basics.proofs.Lists.{concatMap-append}
 use Rattle.netlist.specs.declared.Kind.{Kind}
 use Rattle.netlist.specs.declared.Kind.the-variants.{Simple, Parity, Mux}
@@ -29,13 +30,12 @@ use Rattle.settle.specs.Settling.{topOf}
 use Rattle.pairs.specs.Pairs.{timesAt, pairList, pairsFor, placeOf}
 use Rattle.pairs.specs.Table.{pairsIn}
 use Rattle.pairs.specs.Promise.{pairsAt}
-use Rattle.pairs.proofs.Flat.{pairs-flat}
+use Rattle.pairs.proofs.Flat.{pairs-flat, pairs-length}
 use Rattle.formula.specs.Formula.{
   literal,
   clauseOf,
   gateClauses,
   late,
-  driverLate,
   controlClauses,
   pairClauses,
   formula,
@@ -44,28 +44,37 @@ use Rattle.formula.specs.Formula.{
   formulaFor,
 }
 use Rattle.formula.specs.Emission.{Token, tokensOf, cellRun}
-use Rattle.formula.specs.Late.{topIn, variableIn, clausesIn, pairRun, outputsLate}
+use Rattle.formula.specs.Late.{
+  Lent,
+  pairsCount,
+  topIn,
+  variableIn,
+  pinLate,
+  clausesIn,
+  gateRun,
+  runOf,
+  pairRun,
+  wholeRun,
+}
 use Rattle.formula.proofs.Gates.{tokens-append, tokens-concatMap}
-use Rattle.formula.proofs.Table.{topsAt, tableAt}
+use Rattle.formula.proofs.Table.{tableAt, lentAt}
 
 -- ---- one pair
 
 -- what is put for a pair are the definition's clauses
-pair-tokens : (shape : Shape) (tops table : List ℕ) (f : ℕ) (kind : Kind) (pins : List Pin) (t : ℕ) →
-    clausesIn shape tops table (variableIn shape table f t) kind pins t
-    ≡ tokensOf (pairClauses (shape .inputs) (topIn tops) nodeVariable (variableIn shape table) f kind pins t)
+pair-tokens : (l : Lent) (f : ℕ) (kind : Kind) (pins : List Pin) (t : ℕ) →
+    clausesIn l (variableIn l f t) kind pins t
+    ≡ tokensOf (pairClauses (l .shape .inputs) (topIn (l .tops)) nodeVariable (variableIn l) f kind pins t)
 unfolding pairClauses
-pair-tokens shape tops table f (Simple c k) pins t =
-    let I = shape .inputs in
-    let first = clauseOf (literal _ (variableIn shape table f t)
-    ∷ map (driverLate I (topIn tops) nodeVariable (variableIn shape table) t) pins) in
-    sym (tokens-append first (controlClauses I (topIn tops) nodeVariable (variableIn shape table) f (Simple c k) pins t)
-    ∙ ap (λ (l : List Token). tokensOf first ++ l)
-    (tokens-concatMap (λ p. clauseOf (literal _ (variableIn shape table f t)
-    ∷ driverLate I (topIn tops) nodeVariable (variableIn shape table) t p
-    ∷ literal (not c) (suc (p .driver)) ∷ [])) pins))
-pair-tokens shape tops table f (Parity equal) pins t = ap tokensOf (sym (append-nil _))
-pair-tokens shape tops table f Mux pins t = ap tokensOf (sym (append-nil _))
+pair-tokens l f (Simple c k) pins t =
+    let I = l .shape .inputs in
+    let first = clauseOf (literal _ (variableIn l f t) ∷ map (pinLate l t) pins) in
+    sym (tokens-append first (controlClauses I (topIn (l .tops)) nodeVariable (variableIn l) f (Simple c k) pins t)
+    ∙ ap (λ (x : List Token). tokensOf first ++ x)
+    (tokens-concatMap (λ p. clauseOf (literal _ (variableIn l f t)
+    ∷ pinLate l t p ∷ literal (not c) (suc (p .driver)) ∷ [])) pins))
+pair-tokens l f (Parity equal) pins t = ap tokensOf (sym (append-nil _))
+pair-tokens l f Mux pins t = ap tokensOf (sym (append-nil _))
 
 -- ---- all pairs
 
@@ -86,29 +95,57 @@ module _ {B : Type 0} (times : ℕ → List ℕ) (F : ℕ × Cell → ℕ → Li
       ∙ sym (concatMap-append G (map (λ t. (x .0, t)) (times (x .0)))
       (concatMap (λ x. map (λ t. (x .0, t)) (times (x .0))) xs))
 
+-- ---- by number, or by entry
+
+-- a run for each entry of a list, by its number
+by-number : {A B : Type 0} (F : A → List B) (d : A) (xs : List A) (n : ℕ) → n ≡ length xs →
+    concatMap (λ k. F (getD xs k d)) (upFrom 0 n) ≡ concatMap F xs
+by-number {A} {B} F d xs n e = ap (λ (m : ℕ). concatMap (λ k. F (getD xs k d)) (upFrom 0 m)) e ∙ go [] xs
+  where
+    at : (done : List A) (x : A) (left : List A) → getD (done ++ (x ∷ left)) (length done) d ≡ x
+    at [] x left = refl
+    at (y ∷ done) x left = at done x left
+
+    go : (done left : List A) →
+        concatMap (λ k. F (getD (done ++ left) k d)) (upFrom (length done) (length left)) ≡ concatMap F left
+    go done [] = refl
+    go done (x ∷ left) =
+        let l : suc (length done) ≡ length (done ++ (x ∷ [])) =
+        omega (arith, length-append done (x ∷ [])) in
+        ap₂ (λ (a b : List B). a ++ b) (ap F (at done x left))
+        (ap₂ (λ (l : List A) (m : ℕ). concatMap (λ k. F (getD l k d)) (upFrom m (length left)))
+        (sym (append-assoc done (x ∷ []) left)) l
+        ∙ go (done ++ (x ∷ [])) left)
+
+-- a run for each gate at its node, by its number
+by-gate : {A B : Type 0} (F : ℕ × A → List B) (f : ℕ → A) (n a k : ℕ) →
+    concatMap (λ i. F (n + i, f i)) (upFrom a k) ≡ concatMap F (numbered (n + a) (map f (upFrom a k)))
+by-gate F f n a zero = refl
+by-gate {A} {B} F f n a (suc k) =
+    let e : n + suc a ≡ suc (n + a) = omega arith in
+    ap (λ (t : List B). F (n + a, f a) ++ t)
+    (by-gate F f n (suc a) k ∙ ap (λ (m : ℕ). concatMap F (numbered m (map f (upFrom (suc a) k)))) e)
+
 -- ---- the formula of an accepted file
 
 module _ (file : List ℕ) (shape : Shape) (target : ℕ) where
   -- a pair's variable by the table
-  variables : variableIn shape (tableAt file shape target)
+  variables : variableIn (lentAt file shape target)
       ≡ pairVariable (circuitAt file shape) target
   unfolding variableIn pairVariable
   variables =
       let after : ℕ → List (ℕ × ℕ) → ℕ → ℕ → ℕ = λ n l f t. suc (n + placeOf f t l) in
       ap₂ after (sym (node-count file shape)) (pairs-flat (pairsAt file shape target))
 
-  -- a pair of the table, by its node's gate
-  abbrev ofPair : ℕ × ℕ → List (List Literal)
-  ofPair x =
-      pairClauses (shape .inputs) (topOf (circuitAt file shape)) nodeVariable
-      (variableIn shape (tableAt file shape target)) (x .0) (cellAt file shape (x .0 - shape .inputs) .kind)
-      (cellAt file shape (x .0 - shape .inputs) .pins) (x .1)
-
-  -- and by the gate
+  -- a gate and a time
   abbrev ofGate : ℕ × Cell → ℕ → List (List Literal)
   ofGate x =
       pairClauses (shape .inputs) (topOf (circuitAt file shape)) nodeVariable
-      (variableIn shape (tableAt file shape target)) (x .0) (x .1 .kind) (x .1 .pins)
+      (variableIn (lentAt file shape target)) (x .0) (x .1 .kind) (x .1 .pins)
+
+  -- a pair of the table, by its node's gate
+  abbrev ofPair : ℕ × ℕ → List (List Literal)
+  ofPair x = ofGate (x .0, cellAt file shape (x .0 - shape .inputs)) (x .1)
 
   same-pair : (x : ℕ × Cell) → List·Memᴰ x (nodes (netlistAt file shape)) → (t : ℕ) → ofGate x t ≡ ofPair (x .0, t)
   same-pair x m t =
@@ -116,56 +153,63 @@ module _ (file : List ℕ) (shape : Shape) (target : ℕ) where
       let d : shape .inputs + w .0 - shape .inputs ≡ w .0 = omega arith in
       rw (w .2, d)
 
-  pairs-put : concatMap (pairRun file shape (topsAt file shape) (tableAt file shape target))
-      (pairsIn (tableAt file shape target))
-      ≡ tokensOf (concatMap (λ x. concatMap (ofGate x)
-      (timesAt (netlistAt file shape .inputs) (topOf (circuitAt file shape))
-      (netlistAt file shape .outputs) target (netlistAt file shape .gates) (x .0))) (nodes (netlistAt file shape)))
+  -- the pairs' clauses, gate by gate
+  abbrev ofPairs : List (List Literal)
+  ofPairs =
+      let net = netlistAt file shape in
+      concatMap (λ x. concatMap (ofGate x)
+      (timesAt (net .inputs) (topOf (circuitAt file shape)) (net .outputs) target (net .gates) (x .0))) (nodes net)
+
+  pairs-put : concatMap (pairRun file (lentAt file shape target)) (upFrom 0 (pairsCount (lentAt file shape target)))
+      ≡ tokensOf ofPairs
   unfolding pairsFor pairList
   pairs-put =
       let net = netlistAt file shape in
       let times = timesAt (net .inputs) (topOf (circuitAt file shape)) (net .outputs) target (net .gates) in
-      ap (concatMap (pairRun file shape (topsAt file shape) (tableAt file shape target)))
-      (pairs-flat (pairsAt file shape target))
-      ∙ runs (pairsAt file shape target)
-      ∙ sym (tokens-concatMap ofPair (pairsAt file shape target))
+      let pairs = pairsAt file shape target in
+      by-number (runOf file (lentAt file shape target)) (0, 0) (pairsIn (tableAt file shape target))
+      (pairsCount (lentAt file shape target)) (sym (pairs-length (tableAt file shape target)))
+      ∙ ap (concatMap (runOf file (lentAt file shape target))) (pairs-flat pairs)
+      ∙ runs pairs
+      ∙ sym (tokens-concatMap ofPair pairs)
       ∙ ap tokensOf (sym (each-pair times ofGate ofPair (nodes net) same-pair))
     where
-      runs : (l : List (ℕ × ℕ)) →
-          concatMap (pairRun file shape (topsAt file shape) (tableAt file shape target)) l
-          ≡ concatMap (λ x. tokensOf (ofPair x)) l
+      runs : (ps : List (ℕ × ℕ)) →
+          concatMap (runOf file (lentAt file shape target)) ps ≡ concatMap (λ x. tokensOf (ofPair x)) ps
       runs [] = refl
-      runs (x ∷ l) =
+      runs (x ∷ ps) =
+          let cell = cellAt file shape (x .0 - shape .inputs) in
           ap₂ (λ (a b : List Token). a ++ b)
-          (pair-tokens shape (topsAt file shape) (tableAt file shape target) (x .0)
-          (cellAt file shape (x .0 - shape .inputs) .kind) (cellAt file shape (x .0 - shape .inputs) .pins) (x .1))
-          (runs l)
+          (pair-tokens (lentAt file shape target) (x .0) (cell .kind) (cell .pins) (x .1)) (runs ps)
+
+  -- the gates' clauses, gate by gate
+  gates-put : concatMap (gateRun file shape) (upFrom 0 (shape .gates))
+      ≡ tokensOf (concatMap (λ x. gateClauses nodeVariable (x .1 .kind) (x .1 .pins) (x .0)) (nodes (netlistAt file shape)))
+  unfolding netlistAt
+  gates-put =
+      let e : shape .inputs + 0 ≡ shape .inputs = omega arith in
+      by-gate cellRun (cellAt file shape) (shape .inputs) 0 (shape .gates)
+      ∙ ap (λ (n : ℕ). concatMap cellRun (numbered n (map (cellAt file shape) (upFrom 0 (shape .gates))))) e
+      ∙ sym (tokens-concatMap (λ x. gateClauses nodeVariable (x .1 .kind) (x .1 .pins) (x .0))
+      (nodes (netlistAt file shape)))
 
   -- 1, 2 and 3 in order
-  pub whole-tokens :
-      (concatMap cellRun (nodes (netlistAt file shape))
-      ++ concatMap (pairRun file shape (topsAt file shape) (tableAt file shape target))
-      (pairsIn (tableAt file shape target)))
-      ++ outputsLate file shape (topsAt file shape) (tableAt file shape target) target
+  pub whole-tokens : wholeRun file (lentAt file shape target) target
       ≡ tokensOf (formulaFor (circuitAt file shape) target)
   unfolding formulaFor formula netlistAt
   whole-tokens =
       let net = netlistAt file shape in
       let top = topOf (circuitAt file shape) in
       let times = timesAt (net .inputs) top (net .outputs) target (net .gates) in
-      let v = variableIn shape (tableAt file shape target) in
-      let ofCell : ℕ × Cell → List (List Literal) = λ x. gateClauses nodeVariable (x .1 .kind) (x .1 .pins) (x .0) in
-      let ofPairs : List (List Literal) = concatMap (λ x. concatMap (ofGate x) (times (x .0))) (nodes net) in
+      let v = variableIn (lentAt file shape target) in
+      let ofCells : List (List Literal) =
+      concatMap (λ x. gateClauses nodeVariable (x .1 .kind) (x .1 .pins) (x .0)) (nodes net) in
       let last : List (List Literal) =
-      clauseOf (map (λ o. late (shape .inputs) top nodeVariable v o target) (net .outputs))
-      in
-      append-assoc (concatMap cellRun (nodes net))
-      (concatMap (pairRun file shape (topsAt file shape) (tableAt file shape target))
-      (pairsIn (tableAt file shape target)))
-      (outputsLate file shape (topsAt file shape) (tableAt file shape target) target)
-      ∙ ap₂ (λ (a b : List Token). a ++ b) (sym (tokens-concatMap ofCell (nodes net)))
-      (ap (λ (b : List Token). b ++ tokensOf last) pairs-put ∙ sym (tokens-append ofPairs last))
-      ∙ sym (tokens-append (concatMap ofCell (nodes net)) (ofPairs ++ last))
+      clauseOf (map (λ o. late (shape .inputs) top nodeVariable v o target) (net .outputs)) in
+      ap₂ (λ (a b : List Token). (a ++ b) ++ tokensOf last) gates-put pairs-put
+      ∙ append-assoc (tokensOf ofCells) (tokensOf ofPairs) (tokensOf last)
+      ∙ ap (λ (b : List Token). tokensOf ofCells ++ b) (sym (tokens-append ofPairs last))
+      ∙ sym (tokens-append ofCells (ofPairs ++ last))
       ∙ ap (λ (w : ℕ → ℕ → ℕ). tokensOf
       (formula (net .inputs) top nodeVariable w (nodes net) times (net .outputs) target))
       variables

@@ -1,14 +1,19 @@
--- What serves the code that writes the formula: the numbers that it puts one after the other, and how far it has come.
+-- What serves the code that writes the formula: the numbers that it puts one after the other, how far it has come, and
+-- how many numbers there can be.
 use mathlib.Core.Path.{_≡_}
-use mathlib.Core.Bool.{Bool, true, false, not}
+use mathlib.Core.Bool.{Bool, true, false, not, cond}
 use mathlib.Core.List.{List, [], _∷_, _++_, map}
-use Prim.Native.Nat.{ℕ, suc, _+_, _≤_}
+use Prim.Native.Nat.{ℕ, suc, _+_, _*_, _≤_}
+use lib.Dec.{eqb, ltb}
 use lib.IntN.{ℤ}
-use lib.ListN.{length}
-use Rattle.netlist.specs.Netlist.{Pin, Cell}
+use lib.ListN.{length, getD}
+use Rattle.basics.specs.Lists.{concatMap, upFrom}
+use Rattle.netlist.specs.Netlist.{Cell}
 use Rattle.clauses.specs.Clauses.{Literal}
 use Rattle.clauses.specs.Codes.{literalCode, written}
 use Rattle.formula.specs.declared.Emitted.{Emitted}
+use Rattle.formula.specs.declared.Share.{Share}
+use Rattle.formula.specs.declared.Share.the-variants.{Forced, Driver, Late, Control}
 use Rattle.formula.specs.Formula.{nodeVariable, gateClauses}
 
 -- what is put next: a literal, by its code, or the 0 that ends a clause
@@ -49,40 +54,81 @@ pub record Emits (most : ℕ) (tokens : List Token) (before : List ℤ) (from : 
 abbrev pub start : Emitted
 start = record { numbers = 0; clauses = 0 }
 
--- so many numbers more still have places below the bound, and there are no more clauses than numbers
+-- ---- bounds
+
+-- a variable's number is a signed number of 32 bits, and so a literal's code has at most 32 bits
+abbrev pub variableBound : ℕ
+variableBound = 2147483648
+
+abbrev pub codeBound : ℕ
+codeBound = 4294967296
+
+-- a place has at most 32 bits too; the largest formula ends far below
+abbrev pub lastPlace : ℕ
+lastPlace = 4000000000
+
+-- a driver adds at most a clause of three literals
+abbrev pub shareMost : ℕ
+shareMost = 4
+
+-- a gate takes at most 8 pins; it puts two runs over them and a clause's first literal and end, or four clauses of three
+-- literals; and so does a pair
+abbrev pub gateMost : ℕ
+gateMost = 8 * shareMost + 8 * shareMost + 2
+
+-- at most 448 gates
+abbrev pub gatesMost : ℕ
+gatesMost = 448 * gateMost
+
+-- at most 65,536 pairs
+abbrev pub pairsMost : ℕ
+pairsMost = 65536 * gateMost
+
+-- at most 64 outputs, and a clause's head and end
+abbrev pub outputsMost : ℕ
+outputsMost = 64 * shareMost + 2
+
+-- so many numbers more still have places, and there are no more clauses than numbers
 pub record Fits (most : ℕ) (at : Emitted) : Type 0 where
-  pub place : at .numbers + most ≤ 4000000000
+  pub place : at .numbers + most ≤ lastPlace
   pub fewer : at .clauses ≤ at .numbers
 
--- ---- what each loop puts for one entry
+-- ---- what is put for one driver
 
--- "for each pin, driver is not c, gate is k"
-abbrev pub forcedRun : Bool → Bool → ℕ → Pin → List Token
-forcedRun c k node p = wants (not c, suc (p .driver)) ∷ wants (k, suc node) ∷ ended ∷ []
+-- a part of a clause by its code: below 2 it is no literal
+abbrev pub codeRun : ℕ → List Token
+codeRun code = cond (ltb code 2) [] (coded code ∷ [])
 
--- "driver is c"
-abbrev pub driverRun : Bool → Pin → List Token
-driverRun c p = wants (c, suc (p .driver)) ∷ []
+-- "A node's variable is its number plus 1"
+abbrev pub nodeIs : ℕ → Bool → Literal
+nodeIs node wanted = (wanted, node + 1)
+
+-- what a driver adds, by its node and the code of "driver late", beside a literal of the variable `own`
+abbrev pub shareRun : Share → ℕ → ℕ → ℕ → List Token
+shareRun (Forced c k) own node late = wants (nodeIs node (not c)) ∷ wants (k, own) ∷ ended ∷ []
+shareRun (Driver c) own node late = wants (nodeIs node c) ∷ []
+shareRun Late own node late = codeRun late
+shareRun (Control c) own node late =
+    cond (eqb late 1) [] (((wants (false, own) ∷ []) ++ codeRun late) ++ (wants (nodeIs node (not c)) ∷ ended ∷ []))
+
+-- the clause "head, or something late", by the codes, and whether something is late outright
+abbrev pub lateRun : ℕ → ℕ → List ℕ → Bool → List Token
+lateRun head count lates some =
+    cond some [] ((codeRun head ++ concatMap (λ i. codeRun (getD lates i 0)) (upFrom 0 count)) ++ (ended ∷ []))
+
+-- ---- what is put for one gate
 
 -- a clause of three literals
 abbrev pub three : Literal → Literal → Literal → List Token
 three x y z = wants x ∷ wants y ∷ wants z ∷ ended ∷ []
 
--- "for pin values 00, 01, 10, 11, first differs, second differs, gate is the result"
-abbrev pub parityRun : ℕ → ℕ → Bool → ℕ → List Token
-parityRun p q equal f =
-    three (true, suc p) (true, suc q) (equal, suc f)
-    ++ (three (true, suc p) (false, suc q) (not equal, suc f)
-    ++ (three (false, suc p) (true, suc q) (not equal, suc f)
-    ++ three (false, suc p) (false, suc q) (equal, suc f)))
-
--- "MUX with s, a, b, f: (s, -a, f), (s, a, -f), (-s, -b, f), (-s, b, -f)"
-abbrev pub muxRun : ℕ → ℕ → ℕ → ℕ → List Token
-muxRun s a b f =
-    three (true, suc s) (false, suc a) (true, suc f)
-    ++ (three (true, suc s) (true, suc a) (false, suc f)
-    ++ (three (false, suc s) (false, suc b) (true, suc f)
-    ++ three (false, suc s) (true, suc b) (false, suc f)))
+-- "(s, a is d, f is e), (s, a is not d, f is not e), (-s, b is d, f is g), (-s, b is not d, f is not g)"
+abbrev pub chosenRun : ℕ → ℕ → ℕ → Bool → Bool → Bool → ℕ → List Token
+chosenRun s a b d e g f =
+    three (nodeIs s true) (nodeIs a d) (nodeIs f e)
+    ++ (three (nodeIs s true) (nodeIs a (not d)) (nodeIs f (not e))
+    ++ (three (nodeIs s false) (nodeIs b d) (nodeIs f g)
+    ++ three (nodeIs s false) (nodeIs b (not d)) (nodeIs f (not g))))
 
 -- the clauses of a gate at its node
 abbrev pub cellRun : ℕ × Cell → List Token

@@ -1,23 +1,25 @@
--- What serves the code that writes the pairs' clauses: "late at t" by the tops and the table in lent slices, as one
--- code, and what the code leans on in them.
+-- What serves the code that writes the pairs' clauses: "late at t" by what is lent to it, as one code, and what the code
+-- leans on.
 use mathlib.Core.Path.{_≡_}
-use mathlib.Core.Bool.{Bool, false, not, cond}
+use mathlib.Core.Bool.{Bool, false, not}
 use mathlib.Core.List.{List, [], _∷_, _++_, map}
 use Prim.Native.Nat.{ℕ, suc, _+_, _-_, _*_, _/_, _≤_, _<_}
-use lib.Dec.{leb, ltb, eqb}
 use lib.ListN.{length, getD, take}
-use Rattle.basics.specs.Lists.{concatMap}
+use Rattle.basics.specs.Lists.{any, concatMap, upFrom}
 use Rattle.netlist.specs.declared.Kind.{Kind}
 use Rattle.netlist.specs.declared.Kind.the-variants.{Simple, Parity, Mux}
 use Rattle.netlist.specs.declared.Shape.{Shape}
-use Rattle.netlist.specs.Netlist.{Pin}
+use Rattle.netlist.specs.Netlist.{Cell, Pin}
 use Rattle.netlist.specs.File.{firstAt, countAt, driverAt, delayAt, outputAt, cellAt, netlistAt}
 use Rattle.clauses.specs.Codes.{literalCode}
 use Rattle.pairs.specs.Pairs.{placeOf}
 use Rattle.pairs.specs.Table.{pairsIn, pairAt, Sorted}
 use Rattle.pairs.specs.Promise.{Findable, Begins}
-use Rattle.formula.specs.Formula.{Part, sure, never, literal, clauseOf, late, nodeVariable}
-use Rattle.formula.specs.Emission.{Token, coded, ended, wants, tokensOf}
+use Rattle.formula.specs.declared.Side.{Side}
+use Rattle.formula.specs.declared.Side.the-variants.{Pins, Outputs}
+use Rattle.formula.specs.declared.Asked.{Asked}
+use Rattle.formula.specs.Formula.{Part, sure, never, literal, isSure, clauseOf, late, nodeVariable}
+use Rattle.formula.specs.Emission.{Token, wants, tokensOf, cellRun}
 
 -- ---- a part as one code
 
@@ -33,106 +35,149 @@ partRun sure = []
 partRun never = []
 partRun (literal b x) = wants (b, x) ∷ []
 
--- the same by the code
-abbrev pub codeRun : ℕ → List Token
-codeRun code = cond (ltb code 2) [] (coded code ∷ [])
+-- ---- "late at t"
 
--- "-p, driver late, driver is not c", by the three codes
-abbrev pub controlRun : ℕ → ℕ → ℕ → List Token
-controlRun negated part driver =
-    cond (eqb part 1) []
-    (cond (eqb part 0) (coded negated ∷ coded driver ∷ ended ∷ [])
-    (coded negated ∷ coded part ∷ coded driver ∷ ended ∷ []))
+-- what says which node is late when: the counts, the tops of all nodes and the table of pairs
+pub record Lent : Type 0 where
+  pub shape : Shape
+  pub tops : List ℕ
+  pub table : List ℕ
 
--- ---- "late at t" by the lent tops and the lent table
+abbrev pub lent : Shape → List ℕ → List ℕ → Lent
+lent shape tops table = record { shape = shape; tops = tops; table = table }
 
--- "node late at t" is true outright
-abbrev pub sureAt : ℕ → (ℕ → ℕ) → ℕ → ℕ → Bool
-sureAt I top n t = cond (ltb n I) (leb t (top n)) (leb t 0)
+-- how many nodes and pairs
+abbrev pub nodesIn : Lent → ℕ
+nodesIn l = l .shape .inputs + l .shape .gates
+
+abbrev pub pairsCount : Lent → ℕ
+pairsCount l = length (l .table) / 2
 
 -- a node's top
 abbrev pub topIn : List ℕ → ℕ → ℕ
 topIn tops n = getD tops n 0
 
 -- a pair's variable, by its place in the table
-unfoldable pub variableIn : Shape → List ℕ → ℕ → ℕ → ℕ
-variableIn shape table f t = suc (shape .inputs + shape .gates + placeOf f t (pairsIn table))
+unfoldable pub variableIn : Lent → ℕ → ℕ → ℕ
+variableIn l f t = suc (nodesIn l + placeOf f t (pairsIn (l .table)))
 
 -- "node late at t"
-abbrev pub lateIn : Shape → List ℕ → List ℕ → ℕ → ℕ → Part ℕ
-lateIn shape tops table = late (shape .inputs) (topIn tops) nodeVariable (variableIn shape table)
+abbrev pub lateIn : Lent → ℕ → ℕ → Part ℕ
+lateIn l = late (l .shape .inputs) (topIn (l .tops)) nodeVariable (variableIn l)
+
+-- ---- what is asked
+
+-- how many entries a file has on a side
+abbrev pub entries : Shape → Side → ℕ
+entries shape Pins = shape .pins
+entries shape Outputs = shape .outputs
+
+-- the node that an entry asks for: a pin's driver, or the output
+abbrev pub nodeAt : List ℕ → Shape → Side → ℕ → ℕ
+nodeAt file shape Pins pin = driverAt file shape pin
+nodeAt file shape Outputs position = outputAt file shape position
+
+-- and the time: "t less its delay", or t
+abbrev pub timeAt : List ℕ → Shape → Side → ℕ → ℕ → ℕ
+timeAt file shape Pins t pin = t - delayAt file shape pin
+timeAt file shape Outputs t position = t
+
+-- "driver late at t less its delay", "output late at t"
+abbrev pub lateAt : List ℕ → Lent → Side → ℕ → ℕ → Part ℕ
+lateAt file l side t entry = lateIn l (nodeAt file (l .shape) side entry) (timeAt file (l .shape) side t entry)
+
+-- both in one
+abbrev pub askedAt : List ℕ → Lent → Side → ℕ → ℕ → Asked
+askedAt file l side t entry =
+    record { node = nodeAt file (l .shape) side entry; late = partCode (lateAt file l side t entry) }
+
+-- ---- what is put
 
 -- "driver late at t less its delay"
-abbrev pub pinLate : Shape → List ℕ → List ℕ → ℕ → Pin → Part ℕ
-pinLate shape tops table t p = lateIn shape tops table (p .driver) (t - p .delay)
+abbrev pub pinLate : Lent → ℕ → Pin → Part ℕ
+pinLate l t p = lateIn l (p .driver) (t - p .delay)
 
 -- "-p, driver late, driver is not c", of one pin; p is the pair's variable
-abbrev pub pinControl : Shape → List ℕ → List ℕ → Bool → ℕ → ℕ → Pin → List Token
-pinControl shape tops table c pair t p =
-    tokensOf (clauseOf (literal false pair ∷ pinLate shape tops table t p ∷ literal (not c) (suc (p .driver)) ∷ []))
+abbrev pub pinControl : Lent → Bool → ℕ → ℕ → Pin → List Token
+pinControl l c pair t p =
+    tokensOf (clauseOf (literal false pair ∷ pinLate l t p ∷ literal (not c) (suc (p .driver)) ∷ []))
 
 -- "-p, or some driver late at t less its delay"
-abbrev pub driversLate : Shape → List ℕ → List ℕ → ℕ → List Pin → ℕ → List Token
-driversLate shape tops table pair pins t =
-    tokensOf (clauseOf (literal false pair ∷ map (pinLate shape tops table t) pins))
+abbrev pub driversLate : Lent → ℕ → List Pin → ℕ → List Token
+driversLate l pair pins t = tokensOf (clauseOf (literal false pair ∷ map (pinLate l t) pins))
 
 -- the clauses of a pair with this variable, whose gate has this kind and these pins
-abbrev pub clausesIn : Shape → List ℕ → List ℕ → ℕ → Kind → List Pin → ℕ → List Token
-clausesIn shape tops table pair (Simple c k) pins t =
-    driversLate shape tops table pair pins t ++ concatMap (pinControl shape tops table c pair t) pins
-clausesIn shape tops table pair (Parity equal) pins t = driversLate shape tops table pair pins t
-clausesIn shape tops table pair Mux pins t = driversLate shape tops table pair pins t
+abbrev pub clausesIn : Lent → ℕ → Kind → List Pin → ℕ → List Token
+clausesIn l pair (Simple c k) pins t = driversLate l pair pins t ++ concatMap (pinControl l c pair t) pins
+clausesIn l pair (Parity equal) pins t = driversLate l pair pins t
+clausesIn l pair Mux pins t = driversLate l pair pins t
 
--- the clauses of a pair of the table
-abbrev pub pairRun : List ℕ → Shape → List ℕ → List ℕ → ℕ × ℕ → List Token
-pairRun file shape tops table x =
-    clausesIn shape tops table (variableIn shape table (x .0) (x .1)) (cellAt file shape (x .0 - shape .inputs) .kind)
-    (cellAt file shape (x .0 - shape .inputs) .pins) (x .1)
+-- the clauses of a gate by its number
+abbrev pub gateRun : List ℕ → Shape → ℕ → List Token
+gateRun file shape number = cellRun (shape .inputs + number, cellAt file shape number)
+
+-- the clauses of a pair
+abbrev pub runOf : List ℕ → Lent → ℕ × ℕ → List Token
+runOf file l x =
+    clausesIn l (variableIn l (x .0) (x .1)) (cellAt file (l .shape) (x .0 - l .shape .inputs) .kind)
+    (cellAt file (l .shape) (x .0 - l .shape .inputs) .pins) (x .1)
+
+-- the clauses of pair k of the table
+abbrev pub pairRun : List ℕ → Lent → ℕ → List Token
+pairRun file l k = runOf file l (pairAt (pairsIn (l .table)) k)
 
 -- "some output is late at T, outputs in order"
-abbrev pub outputsLate : List ℕ → Shape → List ℕ → List ℕ → ℕ → List Token
-outputsLate file shape tops table target =
-    tokensOf (clauseOf (map (λ o. lateIn shape tops table o target) (netlistAt file shape .outputs)))
+abbrev pub outputsLate : List ℕ → Lent → ℕ → List Token
+outputsLate file l target = tokensOf (clauseOf (map (λ o. lateIn l o target) (netlistAt file (l .shape) .outputs)))
+
+-- 1, 2 and 3 in order
+abbrev pub wholeRun : List ℕ → Lent → ℕ → List Token
+wholeRun file l target =
+    (concatMap (gateRun file (l .shape)) (upFrom 0 (l .shape .gates))
+    ++ concatMap (pairRun file l) (upFrom 0 (pairsCount l)))
+    ++ outputsLate file l target
 
 -- ---- what the code leans on
 
+-- no more nodes and pairs than there can be, and the pairs in order
+pub record Slices (l : Lent) : Type 0 where
+  pub nodes-few : nodesIn l ≤ 512
+  pub tops-all : length (l .tops) ≡ nodesIn l
+  pub pairs-few : length (l .table) ≤ 131072
+  pub sorted : Sorted (pairsIn (take (pairsCount l * 2) (l .table)))
+
+-- and where the pairs of each node begin
+pub record Ready (l : Lent) (starts : List ℕ) : Type 0 where
+  pub slices : Slices l
+  pub begins : Begins (pairsIn (take (pairsCount l * 2) (l .table))) starts (nodesIn l)
+
 -- where a node is late at t by a pair, the table has it
-pub record Asking (shape : Shape) (tops table : List ℕ) (node t : ℕ) : Type 0 where
-  pub node-has : node < length tops
-  pub listed : shape .inputs ≤ node → 0 < t → t ≤ getD tops node 0 → Findable table (length table / 2) node t
+pub record Asking (l : Lent) (node t : ℕ) : Type 0 where
+  pub node-has : node < length (l .tops)
+  pub listed : l .shape .inputs ≤ node → 0 < t → t ≤ getD (l .tops) node 0 → Findable (l .table) (pairsCount l) node t
 
--- so for each driver of a gate
-pub record Drivers (file : List ℕ) (shape : Shape) (tops table : List ℕ) (first count t : ℕ) : Type 0 where
-  pub within : first + count ≤ shape .pins
-  pub few : count < 256
-  pub asks : (pin : ℕ) → first ≤ pin → pin < first + count →
-      Asking shape tops table (driverAt file shape pin) (t - delayAt file shape pin)
+-- so for each of some entries
+pub record Served (file : List ℕ) (l : Lent) (side : Side) (first count t : ℕ) : Type 0 where
+  pub within : first + count ≤ entries (l .shape) side
+  pub asks : (entry : ℕ) → first ≤ entry → entry < first + count →
+      Asking l (nodeAt file (l .shape) side entry) (timeAt file (l .shape) side t entry)
 
--- pair k of the table: a gate's node, at its own place, and its drivers
-pub record Stands (file : List ℕ) (shape : Shape) (tops table : List ℕ) (k node t : ℕ) : Type 0 where
-  pub low : shape .inputs ≤ node
-  pub high : node < shape .inputs + shape .gates
-  pub own : placeOf node t (pairsIn table) ≡ k
-  pub drivers : Drivers file shape tops table (firstAt file shape (node - shape .inputs))
-      (countAt file shape (node - shape .inputs)) t
+-- a pair of the table: a gate's node, at its own place k, and its drivers
+pub record Stands (file : List ℕ) (l : Lent) (k node t : ℕ) : Type 0 where
+  pub low : l .shape .inputs ≤ node
+  pub high : node < nodesIn l
+  pub own : placeOf node t (pairsIn (l .table)) ≡ k
+  pub drivers : Served file l Pins (firstAt file (l .shape) (node - l .shape .inputs))
+      (countAt file (l .shape) (node - l .shape .inputs)) t
 
 -- each pair of the table
-pub record AllStand (file : List ℕ) (shape : Shape) (tops table : List ℕ) : Type 0 where
-  pub stands : (k : ℕ) → k < length table / 2 →
-      Stands file shape tops table k (pairAt (pairsIn table) k .0) (pairAt (pairsIn table) k .1)
+pub record AllStand (file : List ℕ) (l : Lent) : Type 0 where
+  pub stands : (k : ℕ) → k < pairsCount l →
+      Stands file l k (pairAt (pairsIn (l .table)) k .0) (pairAt (pairsIn (l .table)) k .1)
 
--- each output, at the target
-pub record OutputsAsk (file : List ℕ) (shape : Shape) (tops table : List ℕ) (target : ℕ) : Type 0 where
-  pub asks : (position : ℕ) → position < shape .outputs → Asking shape tops table (outputAt file shape position) target
-
--- the lent slices: no more nodes and pairs than there can be, and the pairs in order
-pub record Slices (shape : Shape) (tops table : List ℕ) : Type 0 where
-  pub nodes-few : shape .inputs + shape .gates ≤ 512
-  pub tops-all : length tops ≡ shape .inputs + shape .gates
-  pub pairs-few : length table ≤ 131072
-  pub sorted : Sorted (pairsIn (take (length table / 2 * 2) table))
-
--- where the pairs of each node begin
-abbrev pub Started : Shape → List ℕ → List ℕ → Type 0
-Started shape table starts =
-    Begins (pairsIn (take (length table / 2 * 2) table)) starts (shape .inputs + shape .gates)
+-- the entries were read: their nodes, the codes of "late", and whether some is late outright
+pub record Reads (file : List ℕ) (l : Lent) (side : Side) (first count t : ℕ) (nodes lates : List ℕ) (some : Bool) :
+    Type 0 where
+  pub nodes-are : take count nodes ≡ map (nodeAt file (l .shape) side) (upFrom first count)
+  pub lates-are : take count lates ≡ map (λ e. partCode (lateAt file l side t e)) (upFrom first count)
+  pub some-is : some ≡ any (λ e. isSure (lateAt file l side t e)) (upFrom first count)

@@ -6,55 +6,57 @@ use netlist::Shape;
 use pairs::Listed;
 use refusal::Refusal;
 ghost use mathlib.Core.Path.{_≡_};
-ghost use mathlib.Core.List.{[], _∷_, _++_};
-ghost use Prim.Native.Nat.{suc, _+_, _-_, _≤_, _<_, ℕ};
-ghost use lib.Dec.{T};
-ghost use lib.ListN.{length};
-ghost use Rattle.basics.specs.Lists.{concatMap, any};
-ghost use Rattle.netlist.specs.File.{driverAt, netlistAt, pinsFrom, circuitAt};
+ghost use mathlib.Core.List.{[], _∷_};
+ghost use Prim.Native.Nat.{_+_, _-_, _*_, _/_, _≤_, _<_};
+ghost use lib.ListN.{length, getD};
+ghost use Rattle.basics.specs.Lists.{concatMap, upFrom};
+ghost use Rattle.netlist.specs.File.{netlistAt, pinsFrom, circuitAt};
 ghost use Rattle.netlist.specs.Holds.{Holds, Tables};
-ghost use Rattle.netlist.specs.Netlist.{takes, nodes};
 ghost use Rattle.netlist.specs.declared.Kind.the-variants.{Simple};
-ghost use Rattle.clauses.specs.Codes.{literalCode};
 ghost use Rattle.pairs.specs.Promise.{Tops, pairsAt, Held};
 ghost use Rattle.pairs.specs.declared.Listed.the-variants.{Count};
-ghost use Rattle.pairs.specs.Table.{pairsIn};
-ghost use Rattle.formula.specs.Late.{
-  partCode,
-  codeRun,
-  partRun,
-  controlRun,
-  sureAt,
-  topIn,
-  lateIn,
-  pinLate,
-  pinControl,
-  driversLate,
-  clausesIn,
-  pairRun,
-  Asking,
-  Drivers,
-  AllStand,
-  OutputsAsk,
-  outputsLate,
-  Slices,
-  Started,
-};
+ghost use Rattle.formula.specs.declared.Side.the-variants.{Pins, Outputs};
+ghost use Rattle.formula.specs.Formula.{nodeVariable, gateClauses};
 ghost use Rattle.formula.specs.Promise.{Meets, buildingOf, building};
 ghost use Rattle.formula.specs.Emission.{
   coded,
   ended,
+  wants,
+  tokensOf,
   start,
   Emits,
   Fits,
-  tokensOf,
-  cellRun,
-  forcedRun,
-  driverRun,
-  parityRun,
-  muxRun,
+  codeRun,
+  nodeIs,
+  shareRun,
+  lateRun,
+  three,
+  chosenRun,
+  variableBound,
+  codeBound,
+  shareMost,
+  gateMost,
+  gatesMost,
+  pairsMost,
+  outputsMost,
 };
-ghost use Rattle.formula.specs.Formula.{nodeVariable, gateClauses};
+ghost use Rattle.formula.specs.Late.{
+  lent,
+  partCode,
+  lateIn,
+  askedAt,
+  clausesIn,
+  gateRun,
+  pairRun,
+  outputsLate,
+  wholeRun,
+  Slices,
+  Ready,
+  Asking,
+  Served,
+  AllStand,
+  Reads,
+};
 
 // How many variables, pairs, clauses and numbers a formula has.
 pub struct Counts {
@@ -77,20 +79,38 @@ pub struct Emitted {
     pub clauses: usize,
 }
 
-// The code of "node is wanted".
-fn node_code(node: usize, wanted: bool) -> usize
-    requires { ⌜ node < 65536 ⌝ }
-    ensures { λ r. ⌜ (r ≡ literalCode (wanted, suc node)) × (r < 131075) ⌝ }
-{
-    if wanted {
-        return node * 2 + 2;
-    }
-    node * 2 + 3
+// A node and a time.
+pub struct Moment {
+    pub node: usize,
+    pub time: usize,
 }
 
-// One literal more.
-fn put_literal(formula: &mut [i32], at: Emitted, code: usize) -> Emitted
-    requires { ⌜ Fits 1 at × (code < 4294967296) ⌝ }
+// Who asks whether a node is late: the pins of gates, each for its driver at a time less its delay; or the outputs.
+pub enum Side {
+    Pins,
+    Outputs,
+}
+
+// What is known of a node that is asked for: its number, and "node late" as a code.
+pub struct Asked {
+    pub node: usize,
+    pub late: usize,
+}
+
+// What each driver of a gate adds, beside a variable of the gate's or the pair's own: the clause "driver is not c, own is
+// k"; the literal "driver is c"; the part "driver late"; the clause "-own, driver late, driver is not c".
+pub enum Share {
+    Forced { c: bool, k: bool },
+    Driver(bool),
+    Late,
+    Control(bool),
+}
+
+// ---- numbers, one after the other
+
+// One literal more, by its code.
+fn put_code(formula: &mut [i32], at: Emitted, code: usize) -> Emitted
+    requires { ⌜ Fits 1 at × (code < codeBound) ⌝ }
     ensures { λ r. ⌜ Emits 1 (coded code ∷ []) (now (formula .entry)) at (now (formula .exit)) r ⌝ }
 {
     let numbers = clauses::put(formula, at.numbers, code);
@@ -98,6 +118,28 @@ fn put_literal(formula: &mut [i32], at: Emitted, code: usize) -> Emitted
         numbers: numbers,
         clauses: at.clauses,
     }
+}
+
+// One literal more: "variable is wanted".
+fn put_literal(formula: &mut [i32], at: Emitted, variable: usize, wanted: bool) -> Emitted
+    requires { ⌜ Fits 1 at × (variable < variableBound) ⌝ }
+    ensures { λ r. ⌜ Emits 1 (wants (wanted, variable) ∷ []) (now (formula .entry)) at (now (formula .exit)) r ⌝ }
+{
+    if wanted {
+        return put_code(formula, at, variable * 2);
+    }
+    put_code(formula, at, variable * 2 + 1)
+}
+
+// A part of a clause; a false part is left out.
+fn put_part(formula: &mut [i32], at: Emitted, code: usize) -> Emitted
+    requires { ⌜ Fits 1 at × (code < codeBound) ⌝ }
+    ensures { λ r. ⌜ Emits 1 (codeRun code) (now (formula .entry)) at (now (formula .exit)) r ⌝ }
+{
+    if code < 2 {
+        return at;
+    }
+    put_code(formula, at, code)
 }
 
 // The 0 that ends a clause.
@@ -112,224 +154,84 @@ fn put_end(formula: &mut [i32], at: Emitted) -> Emitted
     }
 }
 
-// A clause of two literals.
-fn clause_of_two(formula: &mut [i32], at: Emitted, first: usize, second: usize) -> Emitted
-    requires { ⌜ Fits 3 at × (first < 4294967296) × (second < 4294967296) ⌝ }
-    ensures { λ r. ⌜
-        Emits 3 (coded first ∷ coded second ∷ ended ∷ []) (now (formula .entry)) at (now (formula .exit)) r
-        ⌝ }
+// ---- what a driver adds
+
+// A number of 16 bits as a number.
+fn widen(x: u16) -> usize
+    ensures { λ r. ⌜ (r ≡ x) × (r < 65536) ⌝ }
 {
-    let one = put_literal(formula, at, first);
-    let two = put_literal(formula, one, second);
-    put_end(formula, two)
+    x as usize
 }
 
-// A clause of three literals.
-fn clause_of_three(
+// What one driver adds. A control clause is left out where its driver is late outright.
+fn put_share(
+    share: Share,
+    own: usize,
+    node: usize,
+    late: usize,
     formula: &mut [i32],
     at: Emitted,
-    first: usize,
-    second: usize,
-    third: usize,
 ) -> Emitted
-    requires { ⌜ Fits 4 at × (first < 4294967296) × (second < 4294967296) × (third < 4294967296) ⌝ }
+    requires { ⌜ (own < variableBound) × (node < 65536) × (late < codeBound) × Fits shareMost at ⌝ }
     ensures { λ r. ⌜
-        Emits 4 (coded first ∷ coded second ∷ coded third ∷ ended ∷ []) (now (formula .entry)) at (now (formula .exit))
-        r
+        Emits shareMost (shareRun share own node late) (now (formula .entry)) at (now (formula .exit)) r
         ⌝ }
 {
-    let one = put_literal(formula, at, first);
-    clause_of_two(formula, one, second, third)
+    match share {
+        Share::Forced { c, k } => {
+            let driver = put_literal(formula, at, node + 1, !c);
+            let gate = put_literal(formula, driver, own, k);
+            return put_end(formula, gate);
+        }
+        Share::Driver(c) => {
+            return put_literal(formula, at, node + 1, c);
+        }
+        Share::Late => {
+            return put_part(formula, at, late);
+        }
+        Share::Control(c) => {
+            if late == 1 {
+                return at;
+            }
+            let negated = put_literal(formula, at, own, false);
+            let part = put_part(formula, negated, late);
+            let driver = put_literal(formula, part, node + 1, !c);
+            return put_end(formula, driver);
+        }
+    }
 }
 
-// For each pin of a simple gate, "driver is not c, gate is k".
-fn forced_clauses(
-    file: &[u8],
-    shape: Shape,
-    first: usize,
+// What each of `count` drivers adds: the one loop over a gate's pins, and over the outputs.
+fn put_shares(
+    nodes: &[u16],
+    lates: &[u32],
     count: usize,
-    c: bool,
-    k: bool,
-    node: usize,
+    share: Share,
+    own: usize,
     formula: &mut [i32],
     at: Emitted,
 ) -> Emitted
     requires { ⌜
-        Tables (now file) shape × (first + count ≤ shape .pins) × (count < 256) × (node < 65536) × Fits 768 at
+        (count ≤ length (now nodes)) × (count ≤ length (now lates)) × (count ≤ 64) × (own < variableBound)
+        × Fits (count * shareMost) at
         ⌝ }
     ensures { λ r. ⌜
-        Emits 768 (concatMap (forcedRun c k node) (pinsFrom (now (file .entry)) shape first count))
-        (now (formula .entry)) at (now (formula .exit)) r
-        ⌝ }
-{
-    let gate_is = node_code(node, k);
-    let mut to = at;
-    let mut i = 0;
-    while i < count {
-        let driver = netlist::driver_at(file, shape, first + i);
-        let driver_is_not = node_code(driver, !c);
-        to = clause_of_two(formula, to, driver_is_not, gate_is);
-        i += 1;
-    }
-    to
-}
-
-// For each pin, the literal "driver is c".
-fn driver_literals(
-    file: &[u8],
-    shape: Shape,
-    first: usize,
-    count: usize,
-    c: bool,
-    formula: &mut [i32],
-    at: Emitted,
-) -> Emitted
-    requires { ⌜ Tables (now file) shape × (first + count ≤ shape .pins) × (count < 256) × Fits 256 at ⌝ }
-    ensures { λ r. ⌜
-        Emits 256 (concatMap (driverRun c) (pinsFrom (now (file .entry)) shape first count)) (now (formula .entry)) at
-        (now (formula .exit)) r
+        Emits (count * shareMost) (concatMap (λ i. shareRun share own (getD (now (nodes .entry)) i 0)
+        (getD (now (lates .entry)) i 0)) (upFrom 0 count)) (now (formula .entry)) at (now (formula .exit)) r
         ⌝ }
 {
     let mut to = at;
     let mut i = 0;
     while i < count {
-        let driver = netlist::driver_at(file, shape, first + i);
-        let driver_is = node_code(driver, c);
-        to = put_literal(formula, to, driver_is);
+        let node = widen(nodes[i]);
+        let late = lent::widen(lates[i]);
+        to = put_share(share, own, node, late, formula, to);
         i += 1;
     }
     to
 }
 
-// A simple gate: "for each pin, driver is not c, gate is k; then driver is c for every pin and gate is not k".
-fn simple_clauses(
-    file: &[u8],
-    shape: Shape,
-    first: usize,
-    count: usize,
-    c: bool,
-    k: bool,
-    node: usize,
-    formula: &mut [i32],
-    at: Emitted,
-) -> Emitted
-    requires { ⌜
-        Tables (now file) shape × (first + count ≤ shape .pins) × (count < 256) × (node < 65536) × Fits 1040 at
-        ⌝ }
-    ensures { λ r. ⌜
-        Emits 1040 (tokensOf (gateClauses nodeVariable (Simple c k) (pinsFrom (now (file .entry)) shape first count)
-        node)) (now (formula .entry)) at (now (formula .exit)) r
-        ⌝ }
-{
-    let forced = forced_clauses(file, shape, first, count, c, k, node, formula, at);
-    let drivers = driver_literals(file, shape, first, count, c, formula, forced);
-    let gate = put_literal(formula, drivers, node_code(node, !k));
-    put_end(formula, gate)
-}
-
-// A parity gate: "for pin values 00, 01, 10, 11, first differs, second differs, gate is the result".
-fn parity_clauses(
-    first: usize,
-    second: usize,
-    equal: bool,
-    node: usize,
-    formula: &mut [i32],
-    at: Emitted,
-) -> Emitted
-    requires { ⌜ (first < 65536) × (second < 65536) × (node < 65536) × Fits 16 at ⌝ }
-    ensures { λ r. ⌜ Emits 16 (parityRun first second equal node) (now (formula .entry)) at (now (formula .exit)) r ⌝ }
-{
-    let first_is = node_code(first, true);
-    let first_is_not = node_code(first, false);
-    let second_is = node_code(second, true);
-    let second_is_not = node_code(second, false);
-    let gate_is = node_code(node, equal);
-    let gate_is_not = node_code(node, !equal);
-    let one = clause_of_three(formula, at, first_is, second_is, gate_is);
-    let two = clause_of_three(formula, one, first_is, second_is_not, gate_is_not);
-    let three = clause_of_three(formula, two, first_is_not, second_is, gate_is_not);
-    clause_of_three(formula, three, first_is_not, second_is_not, gate_is)
-}
-
-// A multiplexer with s, a, b, f: "(s, -a, f), (s, a, -f), (-s, -b, f), (-s, b, -f)".
-fn mux_clauses(
-    select: usize,
-    a: usize,
-    b: usize,
-    node: usize,
-    formula: &mut [i32],
-    at: Emitted,
-) -> Emitted
-    requires { ⌜ (select < 65536) × (a < 65536) × (b < 65536) × (node < 65536) × Fits 16 at ⌝ }
-    ensures { λ r. ⌜ Emits 16 (muxRun select a b node) (now (formula .entry)) at (now (formula .exit)) r ⌝ }
-{
-    let s_is = node_code(select, true);
-    let s_is_not = node_code(select, false);
-    let f_is = node_code(node, true);
-    let f_is_not = node_code(node, false);
-    let one = clause_of_three(formula, at, s_is, node_code(a, false), f_is);
-    let two = clause_of_three(formula, one, s_is, node_code(a, true), f_is_not);
-    let three = clause_of_three(formula, two, s_is_not, node_code(b, false), f_is);
-    clause_of_three(formula, three, s_is_not, node_code(b, true), f_is_not)
-}
-
-// The clauses of one gate, by its kind.
-fn gate_clauses(
-    file: &[u8],
-    shape: Shape,
-    gate: Gate,
-    node: usize,
-    formula: &mut [i32],
-    at: Emitted,
-) -> Emitted
-    requires { ⌜
-        Tables (now file) shape × (gate .first + gate .count ≤ shape .pins) × (gate .count < 256) × T
-        (takes (gate .kind) (gate .count)) × (node < 65536) × Fits 1040 at
-        ⌝ }
-    ensures { λ r. ⌜
-        Emits 1040 (tokensOf (gateClauses nodeVariable (gate .kind)
-        (pinsFrom (now (file .entry)) shape (gate .first) (gate .count)) node)) (now (formula .entry)) at
-        (now (formula .exit)) r
-        ⌝ }
-{
-    let first = gate.first;
-    let count = gate.count;
-    let kind = gate.kind;
-    match kind {
-        Kind::Simple { c, k } => {
-            return simple_clauses(file, shape, first, count, c, k, node, formula, at);
-        }
-        Kind::Parity(equal) => {
-            let p = netlist::driver_at(file, shape, first);
-            let q = netlist::driver_at(file, shape, first + 1);
-            return parity_clauses(p, q, equal, node, formula, at);
-        }
-        Kind::Mux => {
-            let s = netlist::driver_at(file, shape, first);
-            let a = netlist::driver_at(file, shape, first + 1);
-            let b = netlist::driver_at(file, shape, first + 2);
-            return mux_clauses(s, a, b, node, formula, at);
-        }
-    }
-}
-
-// 1. Each gate, rising.
-fn all_gates(file: &[u8], shape: Shape, formula: &mut [i32], at: Emitted) -> Emitted
-    requires { ⌜ Holds (now file) shape × Fits 500000 at ⌝ }
-    ensures { λ r. ⌜
-        Emits 500000 (concatMap cellRun (nodes (netlistAt (now (file .entry)) shape))) (now (formula .entry)) at
-        (now (formula .exit)) r
-        ⌝ }
-{
-    let mut to = at;
-    let mut i = 0;
-    while i < shape.gates {
-        let gate = netlist::gate_at(file, shape, i);
-        to = gate_clauses(file, shape, gate, shape.inputs + i, formula, to);
-        i += 1;
-    }
-    to
-}
+// ---- who is late
 
 // "t less its delay"; below 0 it is 0.
 fn less(t: usize, delay: usize) -> usize
@@ -341,18 +243,6 @@ fn less(t: usize, delay: usize) -> usize
     0
 }
 
-// "Node late at t" is true outright: t is 0, or an input is not beyond its top.
-fn surely_late(shape: Shape, tops: &[u32], node: usize, t: usize) -> bool
-    requires { ⌜ node < length (now tops) ⌝ }
-    ensures { λ r. ⌜ r ≡ sureAt (shape .inputs) (topIn (now (tops .entry))) node t ⌝ }
-{
-    let top = lent::widen(tops[node]);
-    if node < shape.inputs {
-        return t <= top;
-    }
-    t == 0
-}
-
 // "Node late at t" as a code: 1 if true, 0 if false, else the code of its pair's literal.
 fn late_code(
     shape: Shape,
@@ -362,9 +252,12 @@ fn late_code(
     node: usize,
     t: usize,
 ) -> usize
-    requires { ⌜ Slices shape (now tops) (now table) × Asking shape (now tops) (now table) node t
-        × Started shape (now table) (now starts) ⌝ }
-    ensures { λ r. ⌜ (r ≡ partCode (lateIn shape (now (tops .entry)) (now (table .entry)) node t)) × (r < 140000) ⌝ }
+    requires { ⌜
+        Ready (lent shape (now tops) (now table)) (now starts) × Asking (lent shape (now tops) (now table)) node t
+        ⌝ }
+    ensures { λ r. ⌜
+        (r ≡ partCode (lateIn (lent shape (now (tops .entry)) (now (table .entry))) node t)) × (r < codeBound)
+        ⌝ }
 {
     let top = lent::widen(tops[node]);
     if node < shape.inputs {
@@ -383,240 +276,356 @@ fn late_code(
     (shape.inputs + shape.gates + place + 1) * 2
 }
 
-// A part of a clause; a false part is left out.
-fn put_part(formula: &mut [i32], at: Emitted, code: usize) -> Emitted
-    requires { ⌜ Fits 1 at × (code < 140000) ⌝ }
-    ensures { λ r. ⌜ Emits 1 (codeRun code) (now (formula .entry)) at (now (formula .exit)) r ⌝ }
-{
-    if code < 2 {
-        return at;
-    }
-    put_literal(formula, at, code)
-}
-
-// "-p, driver late, driver is not c": left out where the driver is late outright.
-fn control_clause(
-    negated: usize,
-    late: usize,
-    driver: usize,
-    formula: &mut [i32],
-    at: Emitted,
-) -> Emitted
-    requires { ⌜ Fits 4 at × (negated < 140000) × (late < 140000) × (driver < 140000) ⌝ }
-    ensures { λ r. ⌜ Emits 4 (controlRun negated late driver) (now (formula .entry)) at (now (formula .exit)) r ⌝ }
-{
-    if late == 1 {
-        return at;
-    }
-    if late == 0 {
-        return clause_of_two(formula, at, negated, driver);
-    }
-    clause_of_three(formula, at, negated, late, driver)
-}
-
-// Some driver is late outright at t less its delay.
-fn driver_sure(
+// What an entry asks for: a pin its driver, at t less its delay; an output itself, at t.
+fn ask(
     file: &[u8],
     shape: Shape,
+    tops: &[u32],
+    table: &[u32],
+    starts: &[usize],
+    side: Side,
+    entry: usize,
+    t: usize,
+) -> Asked
+    requires { ⌜
+        Tables (now file) shape × Ready (lent shape (now tops) (now table)) (now starts)
+        × Served (now file) (lent shape (now tops) (now table)) side entry 1 t
+        ⌝ }
+    ensures { λ r. ⌜
+        (r ≡ askedAt (now (file .entry)) (lent shape (now (tops .entry)) (now (table .entry))) side t entry)
+        × (r .node < 65536) × (r .late < codeBound)
+        ⌝ }
+{
+    match side {
+        Side::Pins => {
+            let driver = netlist::driver_at(file, shape, entry);
+            let delay = netlist::delay_at(file, shape, entry);
+            return Asked {
+                node: driver,
+                late: late_code(shape, tops, table, starts, driver, less(t, delay)),
+            };
+        }
+        Side::Outputs => {
+            let output = netlist::output_at(file, shape, entry);
+            return Asked {
+                node: output,
+                late: late_code(shape, tops, table, starts, output, t),
+            };
+        }
+    }
+}
+
+// What each of `count` entries asks for, from number `first` on, and whether some of it is late outright.
+fn read_asked(
+    file: &[u8],
+    shape: Shape,
+    tops: &[u32],
+    table: &[u32],
+    starts: &[usize],
+    side: Side,
     first: usize,
     count: usize,
-    tops: &[u32],
     t: usize,
+    nodes: &mut [u16],
+    lates: &mut [u32],
 ) -> bool
     requires { ⌜
-        Tables (now file) shape × (first + count ≤ shape .pins) ×
-        ((pin : ℕ) → first ≤ pin → pin < first + count → driverAt (now file) shape pin < length (now tops))
+        Tables (now file) shape × Ready (lent shape (now tops) (now table)) (now starts)
+        × Served (now file) (lent shape (now tops) (now table)) side first count t
+        × (count ≤ length (now nodes)) × (count ≤ length (now lates)) × (first + count ≤ 2048)
         ⌝ }
     ensures { λ r. ⌜
-        r ≡ any (λ p. sureAt (shape .inputs) (topIn (now (tops .entry))) (p .driver) (t - p .delay))
-        (pinsFrom (now (file .entry)) shape first count)
+        Reads (now (file .entry)) (lent shape (now (tops .entry)) (now (table .entry))) side first count t
+        (now (nodes .exit)) (now (lates .exit)) r
         ⌝ }
 {
+    let mut sure = false;
     let mut i = 0;
     while i < count {
-        let pin = first + i;
-        let driver = netlist::driver_at(file, shape, pin);
-        let delay = netlist::delay_at(file, shape, pin);
-        if surely_late(shape, tops, driver, less(t, delay)) {
-            return true;
-        }
+        let asked = ask(file, shape, tops, table, starts, side, first + i, t);
+        nodes[i] = asked.node as u16;
+        lates[i] = asked.late as u32;
+        sure = sure | (asked.late == 1);
         i += 1;
     }
-    false
+    sure
 }
 
-// For each pin, the part "driver late at t less its delay".
-fn late_literals(
-    file: &[u8],
-    shape: Shape,
-    first: usize,
-    count: usize,
-    tops: &[u32],
-    table: &[u32],
-    starts: &[usize],
-    t: usize,
-    formula: &mut [i32],
-    at: Emitted,
-) -> Emitted
-    requires { ⌜
-        Tables (now file) shape × Slices shape (now tops) (now table) × Drivers (now file) shape (now tops) (now table)
-        first count t × Fits 256 at
-        × Started shape (now table) (now starts)
-        ⌝ }
-    ensures { λ r. ⌜
-        Emits 256 (concatMap (λ p. partRun (pinLate shape (now (tops .entry)) (now (table .entry)) t p))
-        (pinsFrom (now (file .entry)) shape first count)) (now (formula .entry)) at (now (formula .exit)) r
-        ⌝ }
-{
-    let mut to = at;
-    let mut i = 0;
-    while i < count {
-        let pin = first + i;
-        let driver = netlist::driver_at(file, shape, pin);
-        let delay = netlist::delay_at(file, shape, pin);
-        let code = late_code(shape, tops, table, starts, driver, less(t, delay));
-        to = put_part(formula, to, code);
-        i += 1;
-    }
-    to
-}
-
-// For each pin of a simple gate, "-p, driver late, driver is not c".
-fn control_clauses(
-    file: &[u8],
-    shape: Shape,
-    first: usize,
-    count: usize,
-    tops: &[u32],
-    table: &[u32],
-    starts: &[usize],
-    c: bool,
-    pair: usize,
-    t: usize,
-    formula: &mut [i32],
-    at: Emitted,
-) -> Emitted
-    requires { ⌜
-        Tables (now file) shape × Slices shape (now tops) (now table) × Drivers (now file) shape (now tops) (now table)
-        first count t × (pair < 69000) × Fits 1024 at
-        × Started shape (now table) (now starts)
-        ⌝ }
-    ensures { λ r. ⌜
-        Emits 1024 (concatMap (pinControl shape (now (tops .entry)) (now (table .entry)) c pair t)
-        (pinsFrom (now (file .entry)) shape first count)) (now (formula .entry)) at (now (formula .exit)) r
-        ⌝ }
-{
-    let negated = pair * 2 + 1;
-    let mut to = at;
-    let mut i = 0;
-    while i < count {
-        let pin = first + i;
-        let driver = netlist::driver_at(file, shape, pin);
-        let delay = netlist::delay_at(file, shape, pin);
-        let late = late_code(shape, tops, table, starts, driver, less(t, delay));
-        let driver_is_not = node_code(driver, !c);
-        to = control_clause(negated, late, driver_is_not, formula, to);
-        i += 1;
-    }
-    to
-}
-
-// "-p, or some driver late at t less its delay"; p is the pair's variable.
+// "Head, or something late", of what was read, where `head` is a literal's code or 0 for none; left out where something is
+// late outright.
 fn late_clause(
-    file: &[u8],
-    shape: Shape,
-    first: usize,
+    head: usize,
+    nodes: &[u16],
+    lates: &[u32],
     count: usize,
-    tops: &[u32],
-    table: &[u32],
-    starts: &[usize],
-    pair: usize,
-    t: usize,
+    sure: bool,
     formula: &mut [i32],
     at: Emitted,
 ) -> Emitted
     requires { ⌜
-        Tables (now file) shape × Slices shape (now tops) (now table) × Drivers (now file) shape (now tops) (now table)
-        first count t × (pair < 69000) × Fits 258 at
-        × Started shape (now table) (now starts)
+        (head < codeBound) × (count ≤ length (now nodes)) × (count ≤ length (now lates)) × (count ≤ 64)
+        × Fits (count * shareMost + 2) at
         ⌝ }
     ensures { λ r. ⌜
-        Emits 258 (driversLate shape (now (tops .entry)) (now (table .entry)) pair
-        (pinsFrom (now (file .entry)) shape first count) t) (now (formula .entry)) at (now (formula .exit)) r
+        Emits (count * shareMost + 2) (lateRun head count (now (lates .entry)) sure) (now (formula .entry)) at
+        (now (formula .exit)) r
         ⌝ }
 {
-    if driver_sure(file, shape, first, count, tops, t) {
+    if sure {
         return at;
     }
-    let negated = put_literal(formula, at, pair * 2 + 1);
-    let drivers = late_literals(
+    let first = put_part(formula, at, head);
+    let parts = put_shares(nodes, lates, count, Share::Late, 0, formula, first);
+    put_end(formula, parts)
+}
+
+// ---- 1. each gate
+
+// A clause of three nodes: "first is a, second is b, third is c".
+fn clause_of_nodes(
+    first: usize,
+    a: bool,
+    second: usize,
+    b: bool,
+    third: usize,
+    c: bool,
+    formula: &mut [i32],
+    at: Emitted,
+) -> Emitted
+    requires { ⌜ (first < 65536) × (second < 65536) × (third < 65536) × Fits 4 at ⌝ }
+    ensures { λ r. ⌜
+        Emits 4 (three (nodeIs first a) (nodeIs second b) (nodeIs third c)) (now (formula .entry)) at
+        (now (formula .exit)) r
+        ⌝ }
+{
+    let one = put_literal(formula, at, first + 1, a);
+    let two = put_literal(formula, one, second + 1, b);
+    let three = put_literal(formula, two, third + 1, c);
+    put_end(formula, three)
+}
+
+// A gate f for which a pin s chooses: "(s, a is d, f is e), (s, a is not d, f is not e), (-s, b is d, f is g), (-s, b is
+// not d, f is not g)". A multiplexer chooses between two pins, a parity gate between a pin and its opposite.
+fn chosen_clauses(
+    s: usize,
+    a: usize,
+    b: usize,
+    d: bool,
+    e: bool,
+    g: bool,
+    f: usize,
+    formula: &mut [i32],
+    at: Emitted,
+) -> Emitted
+    requires { ⌜ (s < 65536) × (a < 65536) × (b < 65536) × (f < 65536) × Fits 16 at ⌝ }
+    ensures { λ r. ⌜ Emits 16 (chosenRun s a b d e g f) (now (formula .entry)) at (now (formula .exit)) r ⌝ }
+{
+    let one = clause_of_nodes(s, true, a, d, f, e, formula, at);
+    let two = clause_of_nodes(s, true, a, !d, f, !e, formula, one);
+    let three = clause_of_nodes(s, false, b, d, f, g, formula, two);
+    clause_of_nodes(s, false, b, !d, f, !g, formula, three)
+}
+
+// A simple gate: "for each pin, driver is not c, gate is k; then driver is c for every pin and gate is not k". No time is
+// asked for: the drivers are read at 0.
+fn simple_clauses(
+    file: &[u8],
+    shape: Shape,
+    tops: &[u32],
+    table: &[u32],
+    starts: &[usize],
+    first: usize,
+    count: usize,
+    c: bool,
+    k: bool,
+    node: usize,
+    formula: &mut [i32],
+    at: Emitted,
+) -> Emitted
+    requires { ⌜
+        Tables (now file) shape × Ready (lent shape (now tops) (now table)) (now starts)
+        × Served (now file) (lent shape (now tops) (now table)) Pins first count 0
+        × (first + count ≤ 2048) × (count ≤ 8) × (node < 65536) × Fits gateMost at
+        ⌝ }
+    ensures { λ r. ⌜
+        Emits gateMost (tokensOf (gateClauses nodeVariable (Simple c k) (pinsFrom (now (file .entry)) shape first count)
+        node)) (now (formula .entry)) at (now (formula .exit)) r
+        ⌝ }
+{
+    let mut nodes = [0u16; 8];
+    let mut lates = [0u32; 8];
+    let sure = read_asked(
         file,
         shape,
-        first,
-        count,
         tops,
         table,
         starts,
-        t,
-        formula,
-        negated,
+        Side::Pins,
+        first,
+        count,
+        0,
+        &mut nodes,
+        &mut lates,
     );
-    put_end(formula, drivers)
+    let own = node + 1;
+    let forced = put_shares(
+        &nodes,
+        &lates,
+        count,
+        Share::Forced { c: c, k: k },
+        own,
+        formula,
+        at,
+    );
+    let drivers = put_shares(
+        &nodes,
+        &lates,
+        count,
+        Share::Driver(c),
+        own,
+        formula,
+        forced,
+    );
+    let gate = put_literal(formula, drivers, own, !k);
+    put_end(formula, gate)
 }
+
+// The clauses of one gate, by its kind.
+fn gate_clauses(
+    file: &[u8],
+    shape: Shape,
+    tops: &[u32],
+    table: &[u32],
+    starts: &[usize],
+    number: usize,
+    formula: &mut [i32],
+    at: Emitted,
+) -> Emitted
+    requires { ⌜
+        Holds (now file) shape × Ready (lent shape (now tops) (now table)) (now starts) × (number < shape .gates)
+        × Fits gateMost at
+        ⌝ }
+    ensures { λ r. ⌜
+        Emits gateMost (gateRun (now (file .entry)) shape number) (now (formula .entry)) at (now (formula .exit)) r
+        ⌝ }
+{
+    let gate = netlist::gate_at(file, shape, number);
+    let node = shape.inputs + number;
+    let first = gate.first;
+    let count = gate.count;
+    let kind = gate.kind;
+    match kind {
+        Kind::Simple { c, k } => {
+            return simple_clauses(
+                file,
+                shape,
+                tops,
+                table,
+                starts,
+                first,
+                count,
+                c,
+                k,
+                node,
+                formula,
+                at,
+            );
+        }
+        Kind::Parity(equal) => {
+            let p = netlist::driver_at(file, shape, first);
+            let q = netlist::driver_at(file, shape, first + 1);
+            return chosen_clauses(p, q, q, true, equal, !equal, node, formula, at);
+        }
+        Kind::Mux => {
+            let s = netlist::driver_at(file, shape, first);
+            let a = netlist::driver_at(file, shape, first + 1);
+            let b = netlist::driver_at(file, shape, first + 2);
+            return chosen_clauses(s, a, b, false, true, true, node, formula, at);
+        }
+    }
+}
+
+// Each gate, rising.
+fn all_gates(
+    file: &[u8],
+    shape: Shape,
+    tops: &[u32],
+    table: &[u32],
+    starts: &[usize],
+    formula: &mut [i32],
+    at: Emitted,
+) -> Emitted
+    requires { ⌜
+        Holds (now file) shape × Ready (lent shape (now tops) (now table)) (now starts) × Fits gatesMost at
+        ⌝ }
+    ensures { λ r. ⌜
+        Emits gatesMost (concatMap (gateRun (now (file .entry)) shape) (upFrom 0 (shape .gates)))
+        (now (formula .entry)) at (now (formula .exit)) r
+        ⌝ }
+{
+    let mut to = at;
+    let mut i = 0;
+    while i < shape.gates {
+        to = gate_clauses(file, shape, tops, table, starts, i, formula, to);
+        i += 1;
+    }
+    to
+}
+
+// ---- 2. each pair
 
 // The clauses of a pair at time t with this variable, whose gate is this one.
 fn pair_clauses(
     file: &[u8],
     shape: Shape,
-    gate: Gate,
     tops: &[u32],
     table: &[u32],
     starts: &[usize],
+    gate: Gate,
     pair: usize,
     t: usize,
     formula: &mut [i32],
     at: Emitted,
 ) -> Emitted
     requires { ⌜
-        Tables (now file) shape × Slices shape (now tops) (now table) × Drivers (now file) shape (now tops) (now table)
-        (gate .first) (gate .count) t × (pair < 69000) × Fits 1282 at
-        × Started shape (now table) (now starts)
+        Tables (now file) shape × Ready (lent shape (now tops) (now table)) (now starts)
+        × Served (now file) (lent shape (now tops) (now table)) Pins (gate .first) (gate .count) t
+        × (gate .first + gate .count ≤ 2048) × (gate .count ≤ 8) × (0 < pair) × (pair < variableBound)
+        × Fits gateMost at
         ⌝ }
     ensures { λ r. ⌜
-        Emits 1282 (clausesIn shape (now (tops .entry)) (now (table .entry)) pair (gate .kind)
+        Emits gateMost (clausesIn (lent shape (now (tops .entry)) (now (table .entry))) pair (gate .kind)
         (pinsFrom (now (file .entry)) shape (gate .first) (gate .count)) t) (now (formula .entry)) at
         (now (formula .exit)) r
         ⌝ }
 {
+    let mut nodes = [0u16; 8];
+    let mut lates = [0u32; 8];
     let first = gate.first;
     let count = gate.count;
-    let late = late_clause(
+    let sure = read_asked(
         file,
         shape,
-        first,
-        count,
         tops,
         table,
         starts,
-        pair,
+        Side::Pins,
+        first,
+        count,
         t,
-        formula,
-        at,
+        &mut nodes,
+        &mut lates,
     );
+    let late = late_clause(pair * 2 + 1, &nodes, &lates, count, sure, formula, at);
     let kind = gate.kind;
     match kind {
         Kind::Simple { c, k: _ } => {
-            return control_clauses(
-                file,
-                shape,
-                first,
+            return put_shares(
+                &nodes,
+                &lates,
                 count,
-                tops,
-                table,
-                starts,
-                c,
+                Share::Control(c),
                 pair,
-                t,
                 formula,
                 late,
             );
@@ -630,7 +639,22 @@ fn pair_clauses(
     }
 }
 
-// 2. Each pair, rising variable.
+// Pair k of the table.
+fn pair_at(table: &[u32], k: usize) -> Moment
+    requires { ⌜ k < length (now table) / 2 ⌝ }
+    ensures { λ r. ⌜
+        (r .node ≡ getD (now (table .entry)) (k * 2) 0) × (r .time ≡ getD (now (table .entry)) (k * 2 + 1) 0)
+        ⌝ }
+{
+    let node = lent::widen(table[k * 2]);
+    let time = lent::widen(table[k * 2 + 1]);
+    Moment {
+        node: node,
+        time: time,
+    }
+}
+
+// Each pair, rising variable.
 fn all_pairs(
     file: &[u8],
     shape: Shape,
@@ -641,31 +665,29 @@ fn all_pairs(
     at: Emitted,
 ) -> Emitted
     requires { ⌜
-        Holds (now file) shape × Slices shape (now tops) (now table) × AllStand (now file) shape (now tops) (now table)
-        × Fits 90000000 at
-        × Started shape (now table) (now starts)
+        Holds (now file) shape × Ready (lent shape (now tops) (now table)) (now starts)
+        × AllStand (now file) (lent shape (now tops) (now table)) × Fits pairsMost at
         ⌝ }
     ensures { λ r. ⌜
-        Emits 90000000 (concatMap (pairRun (now (file .entry)) shape (now (tops .entry)) (now (table .entry)))
-        (pairsIn (now (table .entry)))) (now (formula .entry)) at (now (formula .exit)) r
+        Emits pairsMost (concatMap (pairRun (now (file .entry)) (lent shape (now (tops .entry)) (now (table .entry))))
+        (upFrom 0 (length (now (table .entry)) / 2))) (now (formula .entry)) at (now (formula .exit)) r
         ⌝ }
 {
     let nodes = shape.inputs + shape.gates;
     let mut to = at;
     let mut k = 0;
     while k < table.len() / 2 {
-        let node = lent::widen(table[k * 2]);
-        let t = lent::widen(table[k * 2 + 1]);
-        let gate = netlist::gate_at(file, shape, node - shape.inputs);
+        let pair = pair_at(table, k);
+        let gate = netlist::gate_at(file, shape, pair.node - shape.inputs);
         to = pair_clauses(
             file,
             shape,
-            gate,
             tops,
             table,
             starts,
+            gate,
             nodes + k + 1,
-            t,
+            pair.time,
             formula,
             to,
         );
@@ -674,58 +696,9 @@ fn all_pairs(
     to
 }
 
-// Some output is late outright at the target.
-fn output_sure(file: &[u8], shape: Shape, tops: &[u32], target: usize) -> bool
-    requires { ⌜ Holds (now file) shape × (length (now tops) ≡ shape .inputs + shape .gates) ⌝ }
-    ensures { λ r. ⌜
-        r ≡ any (λ o. sureAt (shape .inputs) (topIn (now (tops .entry))) o target)
-        (netlistAt (now (file .entry)) shape .outputs)
-        ⌝ }
-{
-    let mut i = 0;
-    while i < shape.outputs {
-        let output = netlist::output_at(file, shape, i);
-        if surely_late(shape, tops, output, target) {
-            return true;
-        }
-        i += 1;
-    }
-    false
-}
+// ---- 3. some output is late
 
-// For each output, the part "output late at the target".
-fn output_literals(
-    file: &[u8],
-    shape: Shape,
-    tops: &[u32],
-    table: &[u32],
-    starts: &[usize],
-    target: usize,
-    formula: &mut [i32],
-    at: Emitted,
-) -> Emitted
-    requires { ⌜
-        Holds (now file) shape × Slices shape (now tops) (now table) × OutputsAsk (now file) shape (now tops)
-        (now table) target × Fits 64 at
-        × Started shape (now table) (now starts)
-        ⌝ }
-    ensures { λ r. ⌜
-        Emits 64 (concatMap (λ o. partRun (lateIn shape (now (tops .entry)) (now (table .entry)) o target))
-        (netlistAt (now (file .entry)) shape .outputs)) (now (formula .entry)) at (now (formula .exit)) r
-        ⌝ }
-{
-    let mut to = at;
-    let mut i = 0;
-    while i < shape.outputs {
-        let output = netlist::output_at(file, shape, i);
-        let code = late_code(shape, tops, table, starts, output, target);
-        to = put_part(formula, to, code);
-        i += 1;
-    }
-    to
-}
-
-// 3. Some output is late at the target, outputs in order.
+// "Some output is late at T, outputs in order."
 fn output_clause(
     file: &[u8],
     shape: Shape,
@@ -737,20 +710,31 @@ fn output_clause(
     at: Emitted,
 ) -> Emitted
     requires { ⌜
-        Holds (now file) shape × Slices shape (now tops) (now table) × OutputsAsk (now file) shape (now tops)
-        (now table) target × Fits 65 at
-        × Started shape (now table) (now starts)
+        Holds (now file) shape × Ready (lent shape (now tops) (now table)) (now starts)
+        × Served (now file) (lent shape (now tops) (now table)) Outputs 0 (shape .outputs) target × Fits outputsMost at
         ⌝ }
     ensures { λ r. ⌜
-        Emits 65 (outputsLate (now (file .entry)) shape (now (tops .entry)) (now (table .entry)) target)
+        Emits outputsMost (outputsLate (now (file .entry)) (lent shape (now (tops .entry)) (now (table .entry))) target)
         (now (formula .entry)) at (now (formula .exit)) r
         ⌝ }
 {
-    if output_sure(file, shape, tops, target) {
-        return at;
-    }
-    let outputs = output_literals(file, shape, tops, table, starts, target, formula, at);
-    put_end(formula, outputs)
+    let mut nodes = [0u16; 64];
+    let mut lates = [0u32; 64];
+    let count = shape.outputs;
+    let sure = read_asked(
+        file,
+        shape,
+        tops,
+        table,
+        starts,
+        Side::Outputs,
+        0,
+        count,
+        target,
+        &mut nodes,
+        &mut lates,
+    );
+    late_clause(0, &nodes, &lates, count, sure, formula, at)
 }
 
 // 1, 2 and 3 in order, from the slice's first place on.
@@ -763,14 +747,14 @@ fn emit(
     formula: &mut [i32],
 ) -> Emitted
     requires { ⌜
-        Holds (now file) shape × Slices shape (now tops) (now table) × AllStand (now file) shape (now tops) (now table)
-        × OutputsAsk (now file) shape (now tops) (now table) target
+        Holds (now file) shape × Slices (lent shape (now tops) (now table))
+        × AllStand (now file) (lent shape (now tops) (now table))
+        × Served (now file) (lent shape (now tops) (now table)) Outputs 0 (shape .outputs) target
         ⌝ }
     ensures { λ r. ⌜
-        Emits 90500065 ((concatMap cellRun (nodes (netlistAt (now (file .entry)) shape)) ++ concatMap
-        (pairRun (now (file .entry)) shape (now (tops .entry)) (now (table .entry))) (pairsIn (now (table .entry)))) ++
-        outputsLate (now (file .entry)) shape (now (tops .entry)) (now (table .entry)) target) (now (formula .entry))
-        start (now (formula .exit)) r
+        Emits (gatesMost + pairsMost + outputsMost)
+        (wholeRun (now (file .entry)) (lent shape (now (tops .entry)) (now (table .entry))) target)
+        (now (formula .entry)) start (now (formula .exit)) r
         ⌝ }
 {
     let start = Emitted {
@@ -784,7 +768,7 @@ fn emit(
         shape.inputs + shape.gates,
         &mut starts,
     );
-    let gates = all_gates(file, shape, formula, start);
+    let gates = all_gates(file, shape, tops, table, &starts, formula, start);
     let pairs = all_pairs(file, shape, tops, table, &starts, formula, gates);
     output_clause(file, shape, tops, table, &starts, target, formula, pairs)
 }

@@ -87,5 +87,5 @@ cases-hold = refl
 
 -- "Topological delay 5": the tops of circuit A
 pub tops-hold : topsOf (circuitOf circuitA) ≡ 0 ∷ 0 ∷ 3 ∷ 4 ∷ 5 ∷ []
-unfolding circuitA kindOf tableBytes shapeOf gateAt pinAt pinsFrom cellOf cellAt netlistAt grow topsOf
+unfolding circuitA kinds kindRow tableBytes shapeOf gateAt pinAt pinsFrom cellOf cellAt netlistAt grow topsOf
 tops-hold = refl

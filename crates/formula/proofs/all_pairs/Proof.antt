@@ -1,149 +1,102 @@
 -- `formula::all_pairs` meets its contract: pair after pair of the table, each puts its run. Assumes nothing.
-use mathlib.Core.Path.{refl}
 use Prim.Native.Nat.{_-_, _/_, _≤_}
 use native.Mathlib.Omega.{arith}
-use lib.ListN.{length, drop}
+use lib.ListN.{length}
 use borrow.Author.Needs.{needs}
-use Rattle.formula.specs.Late.{pairRun}
-use Rattle.formula.proofs.PairClauses as C
+use Rattle.formula.specs.Emission.{gateMost, pairsMost}
+use Rattle.formula.specs.Late.{lent, pairRun}
+use Rattle.formula.proofs.PairClauses.{Here, stands-here, gated, pair-here}
 use Rattle.formula.proofs.Emission.{Emitting}
 use Rattle.formula.proofs.Emission as E
-use Rattle.pairs.specs.Table.{pairsIn}
 use Rattle.formula.proofs.all_pairs.Statement.{statement}
 use Rattle.formula.proofs.all_pairs.Tie as tie
 
 abbrev Inv-loop : tie.InvT-loop
 Inv-loop file shape tops table starts formula₀ nodes to₀ k₀ formula to k =
-    (k ≤ length table / 2) × Emitting 1282 (pairRun file shape tops table) (pairsIn table) (drop k (pairsIn table)) k
-    formula₀ to₀ formula to
+    (k ≤ length table / 2) × Emitting gateMost (pairRun file (lent shape tops table)) k formula₀ to₀ formula to
 
 abbrev μ-loop : tie.MeasureT-loop
 μ-loop file shape tops table starts formula₀ nodes to₀ k₀ formula to k = length table / 2 - k
 
+-- the places on the way
+abbrev start : tie.At-loop Inv-loop μ-loop → tie.Start Inv-loop μ-loop
+start c = c .before .before .before .before .before .before
+
+abbrev looped : tie.After-pair-at Inv-loop μ-loop → tie.At-loop Inv-loop μ-loop
+looped c = c .before .before
+
+abbrev paired : tie.After-gate-at Inv-loop μ-loop → tie.After-pair-at Inv-loop μ-loop
+paired c = c .before .before .before
+
+-- what stands there
+here : (c : tie.After-pair-at Inv-loop μ-loop) →
+    Here (start (looped c) .args .file .now)
+    (lent (start (looped c) .args .shape) (start (looped c) .args .tops .now) (start (looped c) .args .table .now))
+    (looped c .loop .k) (c .pair-at .result)
+here c = stands-here (looped c .loop .k) (c .pair-at .result) (start (looped c) .pre .2) (c .before .loop-test .taken)
+    (c .pair-at .ensures)
+
 add-nodes : tie.Need-add-nodes Inv-loop μ-loop
-add-nodes c = omega (arith, c .before .before .before .before .before .pre .1 .nodes-few)
+add-nodes c = omega (arith, c .before .before .before .before .before .pre .1 .slices .nodes-few)
 
 loop-holds : tie.Need-loop-holds Inv-loop μ-loop
-loop-holds c = (omega arith, E.emitting-starts _ _ _ _ _ (c .before .before .before .before .before .pre .3 .fewer))
+loop-holds c = (omega arith, E.emitting-starts _ _ _ _ (c .before .before .before .before .before .pre .3 .fewer))
 
-mul-widen : tie.Need-mul-widen Inv-loop μ-loop
-mul-widen c = search needs
-
-mul-widen-2 : tie.Need-mul-widen-2 Inv-loop μ-loop
-mul-widen-2 c = search needs
-
-shared-slice-read-widen : tie.Need-shared-slice-read-widen Inv-loop μ-loop
-shared-slice-read-widen c = search needs
-
-widen-requires : tie.Need-widen-requires Inv-loop μ-loop
-widen-requires c κs = search needs
-
-mul-widen-3 : tie.Need-mul-widen-3 Inv-loop μ-loop
-mul-widen-3 c = search needs
-
-add-widen : tie.Need-add-widen Inv-loop μ-loop
-add-widen c = search needs
-
-mul-widen-4 : tie.Need-mul-widen-4 Inv-loop μ-loop
-mul-widen-4 c = search needs
-
-shared-slice-read-widen-2 : tie.Need-shared-slice-read-widen-2 Inv-loop μ-loop
-shared-slice-read-widen-2 c = search needs
-
-widen-requires-2 : tie.Need-widen-requires-2 Inv-loop μ-loop
-widen-requires-2 c κs = search needs
+pair-at-requires : tie.Need-pair-at-requires Inv-loop μ-loop
+pair-at-requires c κs = search needs
 
 sub-gate-at : tie.Need-sub-gate-at Inv-loop μ-loop
-sub-gate-at c =
-    let widen = c .before .before .before .widen in
-    let loop-test = c .before .before .before .before .before .loop-test in
-    let loop = c .before .before .before .before .before .before .loop in
-    let args = c .before .before .before .before .before .before .before .before .before .before .before .before .args
-    in
-    let pre = c .before .before .before .before .before .before .before .before .before .before .before .before .pre in
-    let s = C.stands-here (args .file .now) (args .shape) (args .tops .now) (args .table .now) (loop .k) (widen .result)
-    (c .before .widen2 .result) (pre .2) (loop-test .taken) (widen .ensures .0) (c .before .widen2 .ensures .0) in omega
-    (arith, s .low)
+sub-gate-at c = omega (arith, here (c .before .before) .stands .low)
 
 gate-at-requires : tie.Need-gate-at-requires Inv-loop μ-loop
 gate-at-requires c κs =
-    let widen = c .before .before .before .widen in
-    let loop-test = c .before .before .before .before .before .loop-test in
-    let loop = c .before .before .before .before .before .before .loop in
-    let args = c .before .before .before .before .before .before .before .before .before .before .before .before .args
-    in
-    let pre = c .before .before .before .before .before .before .before .before .before .before .before .before .pre in
-    let s = C.stands-here (args .file .now) (args .shape) (args .tops .now) (args .table .now) (loop .k) (widen .result)
-    (c .before .widen2 .result) (pre .2) (loop-test .taken) (widen .ensures .0) (c .before .widen2 .ensures .0) in
-    (pre .0 .tables, omega (arith, s .low, s .high))
+    let pair = c .before .before in
+    (start (looped pair) .pre .0 .tables, omega (arith, here pair .stands .low, here pair .stands .high))
 
 add-pair-clauses : tie.Need-add-pair-clauses Inv-loop μ-loop
 add-pair-clauses c =
-    let pre = c .before .before .before .before .before .before .before .before .before .before .before .before .before
-    .pre in
-    omega (arith, pre .1 .nodes-few, pre .1 .pairs-few)
+    let s = start (looped (paired c)) in
+    omega (arith, s .pre .1 .slices .nodes-few, s .pre .1 .slices .pairs-few)
 
 add-pair-clauses-2 : tie.Need-add-pair-clauses-2 Inv-loop μ-loop
 add-pair-clauses-2 c =
-    let pre = c .before .before .before .before .before .before .before .before .before .before .before .before .before
-    .pre in
-    omega (arith, pre .1 .nodes-few, pre .1 .pairs-few)
+    let s = start (looped (paired c)) in
+    omega (arith, s .pre .1 .slices .nodes-few, s .pre .1 .slices .pairs-few)
 
 pair-clauses-requires : tie.Need-pair-clauses-requires Inv-loop μ-loop
 pair-clauses-requires c κs =
-    let widen2 = c .before .before .before .widen2 in
-    let widen = c .before .before .before .before .before .widen in
-    let loop-test = c .before .before .before .before .before .before .before .loop-test in
-    let loop = c .before .before .before .before .before .before .before .before .loop in
-    let args = c .before .before .before .before .before .before .before .before .before .before .before .before .before
-    .before .args in
-    let pre = c .before .before .before .before .before .before .before .before .before .before .before .before .before
-    .before .pre in
-    let s = C.stands-here (args .file .now) (args .shape) (args .tops .now) (args .table .now) (loop .k) (widen .result)
-    (widen2 .result) (pre .2) (loop-test .taken) (widen .ensures .0) (widen2 .ensures .0) in
-    let few = E.emitting-few (loop .inv .1) in
-    let pairs = pre .1 .pairs-few in
-    let nodes = pre .1 .nodes-few in
-    let room = pre .3 .place in (
-      pre .0 .tables,
-      pre .1,
-      C.drivers-here (args .file .now) (args .shape) (args .tops .now) (args .table .now) _ s
-          (c .before .gate-at .ensures .0),
+    let gate = c .before in
+    let loop = looped (paired gate) .loop in
+    let s = start (looped (paired gate)) in
+    let known = gated (gate .gate-at .result) (here (paired gate) .stands) (gate .gate-at .ensures .0) (s .pre .0) in
+    let nodes = s .pre .1 .slices .nodes-few in
+    let pairs = s .pre .1 .slices .pairs-few in (
+      s .pre .0 .tables,
+      s .pre .1,
+      known .drivers,
+      known .within,
+      known .few,
       omega arith,
-      record { place = omega arith; fewer = few .1 },
-      pre .4,
+      omega (arith, nodes, pairs),
+      record { place = omega (arith, loop .inv .1 .emits .few, pairs, s .pre .3 .place); fewer = loop .inv .1 .emits .fewer },
     )
 
 add-k : tie.Need-add-k Inv-loop μ-loop
 add-k c =
-    let loop-test = c .before .before .before .before .before .before .before .before .before .loop-test in
-    let pre = c .before .before .before .before .before .before .before .before .before .before .before .before .before
-    .before .before .before .pre in
-    omega (arith, loop-test .taken, pre .1 .pairs-few)
+    let pair = paired (c .before .before .before) in
+    omega (arith, pair .before .loop-test .taken, start (looped pair) .pre .1 .slices .pairs-few)
 
 loop-less : tie.Need-loop-less Inv-loop μ-loop
 loop-less c = search needs
 
 loop-again : tie.Need-loop-again Inv-loop μ-loop
 loop-again c =
-    let gate-at = c .before .before .before .gate-at in
-    let widen2 = c .before .before .before .before .before .widen2 in
-    let widen = c .before .before .before .before .before .before .before .widen in
-    let loop-test = c .before .before .before .before .before .before .before .before .before .loop-test in
-    let loop = c .before .before .before .before .before .before .before .before .before .before .loop in
-    let args = c .before .before .before .before .before .before .before .before .before .before .before .before .before
-    .before .before .before .args in
-    let pre = c .before .before .before .before .before .before .before .before .before .before .before .before .before
-    .before .before .before .pre in
-    let s = C.stands-here (args .file .now) (args .shape) (args .tops .now) (args .table .now) (loop .k) (widen .result)
-    (widen2 .result) (pre .2) (loop-test .taken) (widen .ensures .0) (widen2 .ensures .0) in (
-      omega arith,
-      E.emitting-more _ (loop .inv .1)
-          (C.pairs-next (args .table .now) (loop .k) (widen .result) (widen2 .result) (loop-test .taken)
-          (widen .ensures .0) (widen2 .ensures .0))
-          (E.emits-as 1282 (c .before .pair-clauses .ensures)
-          (C.pair-here (args .file .now) (args .shape) (args .tops .now) (args .table .now) _ s (gate-at .ensures .0))
-          (omega arith)),
+    let gate = c .before .before .before in
+    let pair = paired gate in (
+      omega (arith, pair .before .loop-test .taken),
+      E.emitting-more (looped pair .loop .inv .1)
+          (E.emits-as gateMost (c .before .pair-clauses .ensures)
+          (pair-here (gate .gate-at .result) (here pair .stands) (gate .gate-at .ensures .0) (here pair .is)) (omega arith)),
     )
 
 same-length : tie.Need-same-length Inv-loop μ-loop
@@ -151,11 +104,9 @@ same-length c = E.emitting-length (c .before .loop .inv .1)
 
 returns : tie.Need-returns Inv-loop μ-loop
 returns c =
-    let args = c .before .before .before .before .before .before .before .args in
-    let pre = c .before .before .before .before .before .before .before .pre in
-    let pairs = pre .1 .pairs-few in
-    E.emits-as 90000000 (E.emitting-ends (c .before .loop .inv .1)
-    (C.pairs-done (args .table .now) (c .before .loop .k) (c .loop-test .left))) refl (omega arith)
+    let s = start (c .before) in
+    E.emitting-ends (length (s .args .table .now) / 2) pairsMost (c .before .loop .inv .1) (c .before .loop .inv .0)
+    (c .loop-test .left) (omega (arith, s .pre .1 .slices .pairs-few))
 
 pub all-pairs-spec : {M : Type 1} → statement M
 all-pairs-spec =
@@ -165,15 +116,7 @@ all-pairs-spec =
     μ-loop
     add-nodes
     loop-holds
-    mul-widen
-    mul-widen-2
-    shared-slice-read-widen
-    widen-requires
-    mul-widen-3
-    add-widen
-    mul-widen-4
-    shared-slice-read-widen-2
-    widen-requires-2
+    pair-at-requires
     sub-gate-at
     gate-at-requires
     add-pair-clauses

@@ -1,7 +1,6 @@
 -- `formula::emit` meets its contract: the three runs, one after the other. Assumes nothing.
-use mathlib.Core.Path.{refl}
 use native.Mathlib.Omega.{arith}
-use Rattle.formula.proofs.Emission as E
+use Rattle.formula.proofs.Emission.{emits-then}
 use borrow.Author.Needs.{needs}
 use Rattle.formula.proofs.emit.Statement.{statement}
 use Rattle.formula.proofs.emit.Tie as tie
@@ -15,6 +14,9 @@ slice-aggregate-starts c = search needs
 starts-requires : tie.Need-starts-requires
 starts-requires c κs = search needs
 
+slice-aggregate-all-gates : tie.Need-slice-aggregate-all-gates
+slice-aggregate-all-gates c = search needs
+
 all-gates-requires : tie.Need-all-gates-requires
 all-gates-requires c κs = search needs
 
@@ -22,7 +24,9 @@ slice-aggregate-all-pairs : tie.Need-slice-aggregate-all-pairs
 slice-aggregate-all-pairs c = search needs
 
 all-pairs-requires : tie.Need-all-pairs-requires
-all-pairs-requires c κs = search needs
+all-pairs-requires c κs =
+    let gates = c .before .before .before .all-gates .ensures in
+    (search needs, search needs, search needs, record { place = omega (arith, gates .few); fewer = gates .fewer })
 
 slice-aggregate-output-clause : tie.Need-slice-aggregate-output-clause
 slice-aggregate-output-clause c = search needs
@@ -35,10 +39,9 @@ same-length c = search needs
 
 returns : tie.Need-returns
 returns c =
-    let all-pairs = c .before .before .before .before .before .all-pairs in
-    let all-gates = c .before .before .before .before .before .before .before .before .before .all-gates in
-    E.emits-as 90500065 (E.emits-then (E.emits-then (all-gates .ensures) (all-pairs .ensures))
-    (c .before .output-clause .ensures)) refl (omega arith)
+    let pairs = c .before .before .before .before .before in
+    let gates = pairs .before .before .before .before in
+    emits-then (emits-then (gates .all-gates .ensures) (pairs .all-pairs .ensures)) (c .before .output-clause .ensures)
 
 pub emit-spec : {M : Type 1} → statement M
 emit-spec =
@@ -47,6 +50,7 @@ emit-spec =
     add-starts
     slice-aggregate-starts
     starts-requires
+    slice-aggregate-all-gates
     all-gates-requires
     slice-aggregate-all-pairs
     all-pairs-requires

@@ -1,9 +1,12 @@
 -- `formula::late_code` meets its contract: each way out is a case of "late at t"; the search finds the pair's place.
 -- Assumes nothing.
 use mathlib.Core.Path.{sym, ap}
+use Prim.Native.Nat.{_/_}
 use native.Mathlib.Omega.{arith}
+use lib.ListN.{length}
+use Rattle.pairs.specs.Promise.{Findable}
 use Rattle.pairs.proofs.Search.{begins-at}
-use Rattle.formula.specs.Late.{partCode, variableIn}
+use Rattle.formula.specs.Late.{Lent, lent, partCode, variableIn}
 use Rattle.formula.proofs.Late.{
   Found,
   positive,
@@ -18,6 +21,33 @@ use borrow.Author.Needs.{needs}
 use Rattle.formula.proofs.late_code.Statement.{statement}
 use Rattle.formula.proofs.late_code.Tie as tie
 
+-- the places on the way
+abbrev start : tie.After-widen → tie.Start
+start c = c .before .before .before .before .before
+
+abbrev begun : tie.Else4 → tie.Start
+begun c = start (c .before .before .before .before)
+
+-- what is lent
+abbrev known : tie.Start → Lent
+known s = lent (s .args .shape) (s .args .tops .now) (s .args .table .now)
+
+-- the pair is listed, and its place is found
+listed : (c : tie.Else4) →
+    Findable (begun c .args .table .now) (length (begun c .args .table .now) / 2) (begun c .args .node) (begun c .args .t)
+listed c =
+    let gate = c .before .before in
+    let top = gate .before .before .widen .ensures .0 in
+    begun c .pre .1 .listed (gate .if1 .left) (positive _ (c .before .if3 .left)) (omega arith)
+
+found : (c : tie.After-struct-known2) →
+    Found (begun (c .before .before) .args .table .now) (begun (c .before .before) .args .node)
+    (begun (c .before .before) .args .t) (c .before .place .result)
+found c =
+    let args = begun (c .before .before) .args in
+    place-found (args .table .now) (args .node) (args .t) (c .before .place .result) (listed (c .before .before))
+    (c .before .place .ensures)
+
 mul-widen : tie.Need-mul-widen
 mul-widen c = search needs
 
@@ -29,106 +59,68 @@ widen-requires c κs = search needs
 
 returns : tie.Need-returns
 returns c =
-    let widen = c .before .before .before .widen in
-    let args = c .before .before .before .before .before .before .before .before .args in
-    let top = widen .ensures .0 in (
-      sym
-          (ap partCode (late-input (args .shape) (args .tops .now) (args .table .now) (args .node) (args .t)
-          (c .before .if1 .taken) (omega arith))),
-      omega arith,
-    )
+    let read = c .before .before .before in
+    let s = start read in
+    let top = read .widen .ensures .0 in
+    (sym (ap partCode (late-input (known s) (s .args .node) (s .args .t) (c .before .if1 .taken) (omega arith))), omega arith)
 
 returns-2 : tie.Need-returns-2
 returns-2 c =
-    let widen = c .before .before .before .widen in
-    let args = c .before .before .before .before .before .before .before .before .args in
-    let top = widen .ensures .0 in (
-      sym
-          (ap partCode (late-input-not (args .shape) (args .tops .now) (args .table .now) (args .node) (args .t)
-          (c .before .if1 .taken) (omega arith))),
-      omega arith,
-    )
+    let read = c .before .before .before in
+    let s = start read in
+    let top = read .widen .ensures .0 in
+    (sym (ap partCode (late-input-not (known s) (s .args .node) (s .args .t) (c .before .if1 .taken) (omega arith))), omega arith)
 
 returns-3 : tie.Need-returns-3
 returns-3 c =
-    let args = c .before .before .before .before .before .before .before .before .args in (
-      sym (ap partCode (late-zero (args .shape) (args .tops .now) (args .table .now) (args .node) (args .t)
-          (c .before .if1 .left) (c .if3 .taken))),
-      omega arith,
-    )
+    let s = start (c .before .before .before) in
+    (sym (ap partCode (late-zero (known s) (s .args .node) (s .args .t) (c .before .if1 .left) (c .if3 .taken))), omega arith)
 
 returns-4 : tie.Need-returns-4
 returns-4 c =
-    let if1 = c .before .before .if1 in
-    let widen = c .before .before .before .before .widen in
-    let args = c .before .before .before .before .before .before .before .before .before .args in
-    let top = widen .ensures .0 in let p = positive _ (c .before .if3 .left) in (
-      sym (ap partCode (late-beyond (args .shape) (args .tops .now) (args .table .now) (args .node) (args .t)
-          (if1 .left) p (omega arith))),
-      omega arith,
-    )
+    let gate = c .before .before in
+    let s = start (gate .before .before) in
+    let top = gate .before .before .widen .ensures .0 in
+    let later = positive _ (c .before .if3 .left) in
+    (sym (ap partCode (late-beyond (known s) (s .args .node) (s .args .t) (gate .if1 .left) later (omega arith))), omega arith)
 
 place-requires : tie.Need-place-requires
 place-requires c κs =
-    let if1 = c .before .before .if1 in
-    let widen = c .before .before .before .before .widen in
-    let pre = c .before .before .before .before .before .before .before .before .before .pre in
-    let top = widen .ensures .0 in (
-      pre .1 .listed (if1 .left) (positive _ (c .before .if3 .left)) (omega arith),
-      begins-at _ (pre .2) (omega (arith, pre .1 .node-has, pre .0 .tops-all)),
-    )
-
-found : (c : tie.After-struct-known2) →
-    Found
-    (c .before .before .before .before .before .before .before .before .before .before .before .args .table .now)
-    (c .before .before .before .before .before .before .before .before .before .before .before .args .node)
-    (c .before .before .before .before .before .before .before .before .before .before .before .args .t)
-    (c .before .place .result)
-found c =
-    let if3 = c .before .before .before .if3 in
-    let if1 = c .before .before .before .before .if1 in
-    let widen = c .before .before .before .before .before .before .widen in
-    let args = c .before .before .before .before .before .before .before .before .before .before .before .args in
-    let pre = c .before .before .before .before .before .before .before .before .before .before .before .pre in
-    let top = widen .ensures .0 in
-    place-found (args .table .now) (args .node) (args .t) (c .before .place .result)
-    (pre .1 .listed (if1 .left) (positive _ (if3 .left)) (omega arith)) (c .before .place .ensures)
+    let pre = begun c .pre in
+    (listed c, begins-at _ (pre .0 .begins) (omega (arith, pre .1 .node-has, pre .0 .slices .tops-all)))
 
 add-result : tie.Need-add-result
 add-result c = search needs
 
 add-result-2 : tie.Need-add-result-2
 add-result-2 c =
-    let pre = c .before .before .before .before .before .before .before .before .before .before .before .pre in
-    let f = found c .below in omega (arith, pre .0 .nodes-few, pre .0 .pairs-few)
+    let slices = begun (c .before .before) .pre .0 .slices in
+    omega (arith, found c .below, slices .nodes-few, slices .pairs-few)
 
 add-result-3 : tie.Need-add-result-3
 add-result-3 c =
-    let pre = c .before .before .before .before .before .before .before .before .before .before .before .pre in
-    let f = found c .below in omega (arith, pre .0 .nodes-few, pre .0 .pairs-few)
+    let slices = begun (c .before .before) .pre .0 .slices in
+    omega (arith, found c .below, slices .nodes-few, slices .pairs-few)
 
 mul-result : tie.Need-mul-result
 mul-result c =
-    let pre = c .before .before .before .before .before .before .before .before .before .before .before .pre in
-    let f = found c .below in omega (arith, pre .0 .nodes-few, pre .0 .pairs-few)
+    let slices = begun (c .before .before) .pre .0 .slices in
+    omega (arith, found c .below, slices .nodes-few, slices .pairs-few)
 
 returns-5 : tie.Need-returns-5
 unfolding variableIn
 returns-5 c =
-    let if3 = c .before .before .before .if3 in
-    let if1 = c .before .before .before .before .if1 in
-    let widen = c .before .before .before .before .before .before .widen in
-    let args = c .before .before .before .before .before .before .before .before .before .before .before .args in
-    let pre = c .before .before .before .before .before .before .before .before .before .before .before .pre in
-    let top = widen .ensures .0 in
-    let f = found c in
-    let l = late-pair (args .shape) (args .tops .now) (args .table .now) (args .node) (args .t) (if1 .left)
-    (positive _ (if3 .left)) (omega arith) in
-    let p = f .is in
-    let b = f .below in
-    let n = pre .0 .nodes-few in
-    let m = pre .0 .pairs-few in
-    (rw l (omega arith), omega arith)
+    let asked = c .before .before in
+    let s = begun asked in
+    let gate = asked .before .before in
+    let top = gate .before .before .widen .ensures .0 in
+    let is = found c .is in
+    let below = found c .below in
+    let nodes = s .pre .0 .slices .nodes-few in
+    let pairs = s .pre .0 .slices .pairs-few in
+    let late = late-pair (known s) (s .args .node) (s .args .t) (gate .if1 .left) (positive _ (asked .before .if3 .left))
+    (omega arith) in
+    (rw late (omega arith), omega arith)
 
 pub late-code-spec : {M : Type 1} → statement M
 late-code-spec =

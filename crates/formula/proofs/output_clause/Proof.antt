@@ -1,60 +1,59 @@
--- `formula::output_clause` meets its contract: left out where an output is late outright, else the runs of the
--- callees. Assumes nothing.
-use mathlib.Core.Path.{sym, _∙_}
+-- `formula::output_clause` meets its contract: the clause of what the outputs ask for. Assumes nothing.
 use native.Mathlib.Omega.{arith}
-use Rattle.netlist.specs.File.{netlistAt}
-use Rattle.formula.specs.Late.{lateIn, sureAt, topIn}
-use Rattle.formula.proofs.Late as L
-use Rattle.formula.proofs.Emission as E
+use Rattle.formula.specs.Emission.{outputsMost}
+use Rattle.formula.proofs.Emission.{emits-as}
+use Rattle.formula.proofs.Asking.{late-outputs}
 use borrow.Author.Needs.{needs}
 use Rattle.formula.proofs.output_clause.Statement.{statement}
 use Rattle.formula.proofs.output_clause.Tie as tie
 
-output-sure-requires : tie.Need-output-sure-requires
-output-sure-requires c κs = search needs
+abbrev start : tie.After-read-asked → tie.Start
+start c = c .before .before .before .before .before .before .before
 
-returns : tie.Need-returns
-returns c =
-    let args = c .before .before .before .before .before .before .args in
-    let pre = c .before .before .before .before .before .before .pre in
-    E.emits-as 65 (E.emits-none _ _ (pre .3 .fewer))
-    (L.clause-out (λ o. lateIn (args .shape) (args .tops .now) (args .table .now) o (args .target))
-    (λ o. sureAt (args .shape .inputs) (topIn (args .tops .now)) o (args .target))
-    (λ o. L.late-sure (args .shape) (args .tops .now) (args .table .now) o (args .target))
-    (netlistAt (args .file .now) (args .shape) .outputs) (sym (c .before .output-sure .ensures) ∙ c .if1 .taken))
-    (omega arith)
+slice-aggregate-read-asked : tie.Need-slice-aggregate-read-asked
+slice-aggregate-read-asked c = search needs
 
-output-literals-requires : tie.Need-output-literals-requires
-output-literals-requires c κs = search needs
+slice-aggregate-read-asked-2 : tie.Need-slice-aggregate-read-asked-2
+slice-aggregate-read-asked-2 c = search needs
 
-put-end-requires : tie.Need-put-end-requires
-put-end-requires c κs = search needs
+read-asked-requires : tie.Need-read-asked-requires
+read-asked-requires c κs = search needs
+
+slice-aggregate-late-clause : tie.Need-slice-aggregate-late-clause
+slice-aggregate-late-clause c = search needs
+
+slice-aggregate-late-clause-2 : tie.Need-slice-aggregate-late-clause-2
+slice-aggregate-late-clause-2 c = search needs
+
+late-clause-requires : tie.Need-late-clause-requires
+late-clause-requires c κs =
+    let pre = start (c .before .before .before .before .before) .pre in
+    let few = pre .0 .outputs-few in (
+      omega arith,
+      search needs,
+      search needs,
+      omega (arith, few),
+      record { place = omega (arith, few, pre .3 .place); fewer = pre .3 .fewer },
+    )
 
 same-length : tie.Need-same-length
 same-length c = search needs
 
-returns-2 : tie.Need-returns-2
-returns-2 c =
-    let output-literals = c .before .before .before .before .output-literals in
-    let if1 = c .before .before .before .before .before .before .if1 in
-    let output-sure = c .before .before .before .before .before .before .before .output-sure in
-    let args = c .before .before .before .before .before .before .before .before .before .before .before .before .args
-    in
-    E.emits-as 65
-    (E.emits-then (output-literals .ensures) (c .before .put-end .ensures))
-    (L.clause-in (λ o. lateIn (args .shape) (args .tops .now) (args .table .now) o (args .target))
-    (λ o. sureAt (args .shape .inputs) (topIn (args .tops .now)) o (args .target))
-    (λ o. L.late-sure (args .shape) (args .tops .now) (args .table .now) o (args .target))
-    (netlistAt (args .file .now) (args .shape) .outputs) (sym (output-sure .ensures) ∙ if1 .left))
-    (omega arith)
+returns : tie.Need-returns
+returns c =
+    let read = c .before .before .before .before .before .before .before in
+    emits-as outputsMost (c .before .late-clause .ensures) (late-outputs (read .read-asked .ensures))
+    (omega (arith, start read .pre .0 .outputs-few))
 
 pub output-clause-spec : {M : Type 1} → statement M
 output-clause-spec =
     tie.close
     (tie.spec
-    output-sure-requires
-    returns
-    output-literals-requires
-    put-end-requires
+    slice-aggregate-read-asked
+    slice-aggregate-read-asked-2
+    read-asked-requires
+    slice-aggregate-late-clause
+    slice-aggregate-late-clause-2
+    late-clause-requires
     same-length
-    returns-2)
+    returns)

@@ -1,0 +1,243 @@
+-- What was read of the drivers and the outputs: what they add is what the definition says of each pin, and of each
+-- output. Assumes nothing.
+use mathlib.Core.Path.{_≡_, refl, sym, ap, ap₂, _∙_, subst}
+use mathlib.Core.Bool.{Bool, true, false, not, cond, _||_}
+use mathlib.Core.List.{List, [], _∷_, _++_, map, map-append, map-map}
+use Prim.Native.Nat.{ℕ, zero, suc, _+_, _-_, _*_, _≤_, _<_}
+use native.Mathlib.Omega.{arith}
+use native.Mathlib.Numerals.{add-one}
+use lib.Dec.{eqb}
+use lib.ListN.{length, getD, take, set}
+use lib.Seq.{take-suc-set, getD-take}
+use borrow.Author.Tests.{le-ltb}
+use Rattle.basics.specs.Lists.{any, concatMap, upFrom}
+use Rattle.basics.proofs.Lists.{any-append, any-map, concatMap-append}
+use Rattle.netlist.specs.declared.Shape.{Shape}
+use Rattle.netlist.specs.Netlist.{Pin}
+use Rattle.netlist.specs.File.{pinAt, pinsFrom, netlistAt}
+use Rattle.netlist.proofs.Ranges.{upFrom-append, map-upFrom-at}
+use Rattle.clauses.specs.Codes.{literalCode}
+use Rattle.formula.specs.declared.Asked.{Asked}
+use Rattle.formula.specs.declared.Share.{Share}
+use Rattle.formula.specs.declared.Share.the-variants.{Forced, Driver, Control}
+use Rattle.formula.specs.declared.Side.{Side}
+use Rattle.formula.specs.declared.Side.the-variants.{Pins, Outputs}
+use Rattle.netlist.specs.declared.Kind.the-variants.{Simple}
+use Rattle.formula.specs.Formula.{Part, literal, isSure, clauseOf, nodeVariable, gateClauses}
+use Rattle.formula.specs.Emission.{Token, ended, wants, tokensOf, codeRun, shareRun, lateRun}
+use Rattle.formula.specs.Late.{
+  Lent,
+  partCode,
+  partRun,
+  lateIn,
+  nodeAt,
+  timeAt,
+  lateAt,
+  askedAt,
+  pinLate,
+  pinControl,
+  driversLate,
+  outputsLate,
+  Asking,
+  Served,
+  Reads,
+}
+use Rattle.formula.proofs.Late.{late-sure, late-run, late-control, clause-run}
+use Rattle.formula.proofs.Gates.{pinRun, simple-tokens}
+
+-- ---- reading
+
+-- what is asked for, by its parts
+pub asked-as : (file : List ℕ) (l : Lent) (side : Side) (t entry : ℕ) {node time late : ℕ} →
+    node ≡ nodeAt file (l .shape) side entry → time ≡ timeAt file (l .shape) side t entry →
+    late ≡ partCode (lateIn l node time) → record { node = node; late = late } ≡ askedAt file l side t entry
+asked-as file l side t entry e f g =
+    let asked : ℕ → ℕ → Asked = λ n m. record { node = n; late = m } in
+    ap₂ asked e (g ∙ ap₂ (λ (n m : ℕ). partCode (lateIn l n m)) e f)
+
+-- the same side by another name
+pub served-as : {file : List ℕ} {l : Lent} {side other : Side} {first count t : ℕ} → side ≡ other →
+    Served file l side first count t → Served file l other first count t
+served-as {file} {l} {first = first} {count = count} {t = t} e s =
+    subst (λ (x : Side). Served file l x first count t) e s
+
+-- one of the entries that are served
+pub served-one : {file : List ℕ} {l : Lent} {side : Side} {first count t : ℕ} → Served file l side first count t →
+    (i : ℕ) → i < count → Served file l side (first + i) 1 t
+served-one s i h =
+    record {
+      within = omega (arith, s .within);
+      asks = λ entry x y. s .asks entry (omega arith) (omega arith);
+    }
+
+-- one more number was stored
+module _ (f : ℕ → ℕ) (first i v : ℕ) (xs : List ℕ) where
+  next-stored : take i xs ≡ map f (upFrom first i) → i < length xs → v ≡ f (first + i) →
+      take (i + 1) (set xs i v) ≡ map f (upFrom first (i + 1))
+  next-stored e h w =
+      ap (λ (n : ℕ). take n (set xs i v)) (add-one i)
+      ∙ take-suc-set xs i v h
+      ∙ ap₂ (λ (p : List ℕ) (y : ℕ). p ++ (y ∷ [])) e w
+      ∙ sym (ap (map f) (upFrom-append first i 1) ∙ map-append f (upFrom first i) ((first + i) ∷ []))
+
+pub reads-none : (file : List ℕ) (l : Lent) (side : Side) (first t : ℕ) (nodes lates : List ℕ) →
+    Reads file l side first 0 t nodes lates false
+reads-none file l side first t nodes lates = record { nodes-are = refl; lates-are = refl; some-is = refl }
+
+pub reads-more : {file : List ℕ} {l : Lent} {side : Side} {first i t : ℕ} {nodes lates : List ℕ} {some : Bool}
+    (node late : ℕ) → Reads file l side first i t nodes lates some → i < length nodes → i < length lates →
+    node ≡ nodeAt file (l .shape) side (first + i) → late ≡ partCode (lateAt file l side t (first + i)) →
+    Reads file l side first (i + 1) t (set nodes i node) (set lates i late) (some || eqb late 1)
+reads-more {file} {l} {side} {first} {i} {t} {nodes} {lates} {some} node late r h k e f =
+    let test : ℕ → Bool = λ entry. isSure (lateAt file l side t entry) in
+    record {
+      nodes-are = next-stored (nodeAt file (l .shape) side) first i node nodes (r .nodes-are) h e;
+      lates-are = next-stored (λ entry. partCode (lateAt file l side t entry)) first i late lates (r .lates-are) k f;
+      some-is =
+          ap₂ (λ (a b : Bool). a || b) (r .some-is)
+          (ap (λ (n : ℕ). eqb n 1) f
+          ∙ late-sure l (nodeAt file (l .shape) side (first + i)) (timeAt file (l .shape) side t (first + i))
+          ∙ sym (one (test (first + i))))
+          ∙ sym (ap (any test) (upFrom-append first i 1) ∙ any-append test (upFrom first i) ((first + i) ∷ []));
+    }
+  where
+    one : (b : Bool) → (b || false) ≡ b
+    one true = refl
+    one false = refl
+
+pub reads-all : {file : List ℕ} {l : Lent} {side : Side} {first i t : ℕ} {nodes lates : List ℕ} {some : Bool}
+    (count : ℕ) → Reads file l side first i t nodes lates some → i ≤ count → count ≤ i →
+    Reads file l side first count t nodes lates some
+reads-all {file} {l} {side} {first} {i} {t} {nodes} {lates} {some} count r h k =
+    let e : i ≡ count = omega arith in
+    subst (λ (n : ℕ). Reads file l side first n t nodes lates some) e r
+
+-- ---- what was read
+
+-- one run for each number from 0 on, or for each from `first` on
+from-first : {B : Type 0} (f g : ℕ → List B) (first a n : ℕ) → ((i : ℕ) → i < a + n → f i ≡ g (first + i)) →
+    concatMap f (upFrom a n) ≡ concatMap g (upFrom (first + a) n)
+from-first f g first a zero h = refl
+from-first {B} f g first a (suc n) h =
+    let e : first + suc a ≡ suc (first + a) = omega arith in
+    ap₂ (λ (x y : List B). x ++ y) (h a (omega arith))
+    (from-first f g first (suc a) n (λ i k. h i (omega arith)) ∙ ap (λ (m : ℕ). concatMap g (upFrom m n)) e)
+
+from-zero : {B : Type 0} (f g : ℕ → List B) (first n : ℕ) → ((i : ℕ) → i < n → f i ≡ g (first + i)) →
+    concatMap f (upFrom 0 n) ≡ concatMap g (upFrom first n)
+from-zero f g first n h =
+    let e : first + 0 ≡ first = omega arith in
+    from-first f g first 0 n (λ i k. h i (omega arith)) ∙ ap (λ (m : ℕ). concatMap g (upFrom m n)) e
+
+each-as : {A B : Type 0} (f g : A → List B) → ((x : A) → f x ≡ g x) → (xs : List A) → concatMap f xs ≡ concatMap g xs
+each-as f g h [] = refl
+each-as {B = B} f g h (x ∷ xs) = ap₂ (λ (a b : List B). a ++ b) (h x) (each-as f g h xs)
+
+runs-of : {A B C : Type 0} (f : B → List C) (g : A → B) (xs : List A) →
+    concatMap (λ x. f (g x)) xs ≡ concatMap f (map g xs)
+runs-of f g [] = refl
+runs-of {C = C} f g (x ∷ xs) = ap (λ (l : List C). f (g x) ++ l) (runs-of f g xs)
+
+stored-at : (f : ℕ → ℕ) (first count : ℕ) (xs : List ℕ) → take count xs ≡ map f (upFrom first count) → (i : ℕ) →
+    i < count → getD xs i 0 ≡ f (first + i)
+stored-at f first count xs e i h =
+    sym (getD-take count xs i 0 h) ∙ ap (λ (l : List ℕ). getD l i 0) e ∙ map-upFrom-at f first count i 0 h
+
+module _ {file : List ℕ} {l : Lent} {side : Side} {first count t : ℕ} {nodes lates : List ℕ} {some : Bool}
+    (r : Reads file l side first count t nodes lates some) where
+  late-read : (i : ℕ) → i < count → getD lates i 0 ≡ partCode (lateAt file l side t (first + i))
+  late-read = stored-at (λ e. partCode (lateAt file l side t e)) first count lates (r .lates-are)
+
+  -- what each adds, by what it asks for
+  shares-read : (share : Share) (own : ℕ) →
+      concatMap (λ i. shareRun share own (getD nodes i 0) (getD lates i 0)) (upFrom 0 count)
+      ≡ concatMap (λ e. shareRun share own (nodeAt file (l .shape) side e) (partCode (lateAt file l side t e)))
+      (upFrom first count)
+  shares-read share own =
+      from-zero (λ i. shareRun share own (getD nodes i 0) (getD lates i 0))
+      (λ e. shareRun share own (nodeAt file (l .shape) side e) (partCode (lateAt file l side t e))) first count
+      (λ i h.
+      ap₂ (shareRun share own) (stored-at (nodeAt file (l .shape) side) first count nodes (r .nodes-are) i h)
+      (late-read i h))
+
+  -- the clause of their parts, after a head that is not true outright
+  late-clause-read : (head : ℕ) (hs : List (Part ℕ)) → codeRun head ≡ concatMap partRun hs → any isSure hs ≡ false →
+      lateRun head count lates some
+      ≡ tokensOf (clauseOf (hs ++ map (lateAt file l side t) (upFrom first count)))
+  late-clause-read head hs e f =
+      let late : ℕ → Part ℕ = lateAt file l side t in
+      let entries : List ℕ = upFrom first count in
+      let s : some ≡ any isSure (hs ++ map late entries) =
+      r .some-is ∙ sym (any-append isSure hs (map late entries) ∙ ap (λ (b : Bool). b || any isSure (map late entries)) f
+      ∙ any-map isSure late entries) in
+      let p : concatMap (λ i. codeRun (getD lates i 0)) (upFrom 0 count) ≡ concatMap partRun (map late entries) =
+      from-zero (λ i. codeRun (getD lates i 0)) (λ n. partRun (late n)) first count
+      (λ i h.
+      ap codeRun (late-read i h)
+      ∙ late-run l (nodeAt file (l .shape) side (first + i)) (timeAt file (l .shape) side t (first + i)))
+      ∙ runs-of partRun late entries in
+      ap₂ (λ (b : Bool) (x : List Token). cond b [] (x ++ (ended ∷ []))) s
+      (ap₂ (λ (x y : List Token). x ++ y) e p ∙ sym (concatMap-append partRun hs (map late entries)))
+      ∙ clause-run (hs ++ map late entries)
+
+-- ---- pins
+
+module _ {file : List ℕ} {l : Lent} {first count t : ℕ} {nodes lates : List ℕ} {some : Bool}
+    (r : Reads file l Pins first count t nodes lates some) where
+  -- what each pin adds where no time is asked for
+  pins-read : (share : Share) (own : ℕ) →
+      ((e : ℕ) → shareRun share own (nodeAt file (l .shape) Pins e) (partCode (lateAt file l Pins t e))
+      ≡ pinRun share own (pinAt file (l .shape) e)) →
+      concatMap (λ i. shareRun share own (getD nodes i 0) (getD lates i 0)) (upFrom 0 count)
+      ≡ concatMap (pinRun share own) (pinsFrom file (l .shape) first count)
+  unfolding pinsFrom
+  pins-read share own h =
+      shares-read r share own
+      ∙ each-as _ _ h (upFrom first count)
+      ∙ runs-of (pinRun share own) (pinAt file (l .shape)) (upFrom first count)
+
+  -- a simple gate's clauses
+  pub simple-read : (c k : Bool) (node : ℕ) →
+      ((concatMap (λ i. shareRun (Forced c k) (node + 1) (getD nodes i 0) (getD lates i 0)) (upFrom 0 count)
+      ++ concatMap (λ i. shareRun (Driver c) (node + 1) (getD nodes i 0) (getD lates i 0)) (upFrom 0 count))
+      ++ (wants (not k, node + 1) ∷ [])) ++ (ended ∷ [])
+      ≡ tokensOf (gateClauses nodeVariable (Simple c k) (pinsFrom file (l .shape) first count) node)
+  unfolding pinAt
+  simple-read c k node =
+      ap₂ (λ (x y : List Token). ((x ++ y) ++ (wants (not k, node + 1) ∷ [])) ++ (ended ∷ []))
+      (pins-read (Forced c k) (node + 1) (λ e. refl)) (pins-read (Driver c) (node + 1) (λ e. refl))
+      ∙ simple-tokens c k node (pinsFrom file (l .shape) first count)
+
+  -- "-p, driver late, driver is not c"
+  pub control-read : (c : Bool) (pair : ℕ) →
+      concatMap (λ i. shareRun (Control c) pair (getD nodes i 0) (getD lates i 0)) (upFrom 0 count)
+      ≡ concatMap (pinControl l c pair t) (pinsFrom file (l .shape) first count)
+  unfolding pinsFrom pinAt
+  control-read c pair =
+      shares-read r (Control c) pair
+      ∙ each-as _ _
+      (λ e.
+      late-control l (nodeAt file (l .shape) Pins e) (timeAt file (l .shape) Pins t e) c pair
+      (nodeAt file (l .shape) Pins e)) (upFrom first count)
+      ∙ runs-of (pinControl l c pair t) (pinAt file (l .shape)) (upFrom first count)
+
+  -- "-p, or some driver late"
+  pub late-drivers : (pair : ℕ) → 0 < pair →
+      lateRun (pair * 2 + 1) count lates some ≡ driversLate l pair (pinsFrom file (l .shape) first count) t
+  unfolding pinsFrom pinAt
+  late-drivers pair h =
+      late-clause-read r (pair * 2 + 1) (literal false pair ∷ []) (rw (le-ltb (pair * 2 + 1) 2 (omega arith))) refl
+      ∙ ap (λ (ps : List (Part ℕ)). tokensOf (clauseOf (literal false pair ∷ ps)))
+      (sym (map-map (pinLate l t) (pinAt file (l .shape)) (upFrom first count)))
+
+-- ---- outputs
+
+-- "some output is late at T"
+pub late-outputs : {file : List ℕ} {l : Lent} {target : ℕ} {nodes lates : List ℕ} {some : Bool} →
+    Reads file l Outputs 0 (l .shape .outputs) target nodes lates some →
+    lateRun 0 (l .shape .outputs) lates some ≡ outputsLate file l target
+unfolding netlistAt
+late-outputs {file} {l} {target} r =
+    late-clause-read r 0 [] refl refl
+    ∙ ap (λ (ps : List (Part ℕ)). tokensOf (clauseOf ps))
+    (sym (map-map (λ o. lateIn l o target) (nodeAt file (l .shape) Outputs) (upFrom 0 (l .shape .outputs))))
