@@ -97,26 +97,35 @@ searching-ends b h =
       after = λ k w v. b .after k (omega arith) v;
     }
 
+-- fewer pairs stand before a smaller key
+pub precede-le : {l : List (ℕ × ℕ)} {low high j k : ℕ} → Precede l low j → Precede l high k → low ≤ high → j ≤ k
+precede-le {j = j} {k = k} p q h = go (decLt k j)
+  where
+    go : Dec (k < j) → j ≤ k
+    go (yes i) = absurd (omega (arith, p .before k i, q .after k (omega arith) (omega (arith, p .within))))
+    go (no i) = omega arith
+
+-- and the search for a larger key may start there
+pub searching-from : {l : List (ℕ × ℕ)} {low k : ℕ} (high n : ℕ) → Precede l low k → low ≤ high → n ≡ length l →
+    Searching l high k n
+searching-from high n p h e =
+    record {
+      upto = omega (arith, p .within);
+      within = omega arith;
+      before = λ j i. omega (arith, p .before j i);
+      after = λ j i w. absurd (omega arith);
+    }
+
 -- the pairs of a node stand from where they begin to where those of the next do
 pub searching-node : {l : List (ℕ × ℕ)} {starts : List ℕ} (node time : ℕ) → time < 4294967296 →
     Bounds l starts node → Searching l (node * 4294967296 + time) (getD starts node 0) (getD starts (node + 1) 0)
-searching-node {l} {starts} node time h w =
+searching-node node time h w =
     record {
-      upto = go (decLt (getD starts (node + 1) 0) (getD starts node 0));
+      upto = precede-le (w .low) (w .high) (omega arith);
       within = w .high .within;
       before = λ k i. omega (arith, w .low .before k i);
       after = λ k i j. omega (arith, w .high .after k i j);
     }
-  where
-    go : Dec (getD starts (node + 1) 0 < getD starts node 0) → getD starts node 0 ≤ getD starts (node + 1) 0
-    go (yes i) =
-        absurd
-        (omega (
-          arith,
-          w .low .before (getD starts (node + 1) 0) i,
-          w .high .after (getD starts (node + 1) 0) (omega arith) (omega (arith, w .low .within)),
-        ))
-    go (no i) = omega arith
 
 pub begins-at : {l : List (ℕ × ℕ)} {starts : List ℕ} {nodes : ℕ} (node : ℕ) → Begins l starts nodes → node < nodes →
     Bounds l starts node
