@@ -27,7 +27,7 @@ ghost use Rattle.pairs.specs.Table.{
   Asks,
   Kept,
 };
-ghost use Rattle.pairs.specs.Promise.{Tops, pairsAt, Held, Lists, Findable, Bounds, Begins};
+ghost use Rattle.pairs.specs.Promise.{Topped, Tops, pairsAt, Held, Lists, Findable, Bounds, Begins};
 
 // Where the pairs begin in a table that is filled from its end, or that they are more than it holds.
 enum Filled {
@@ -87,12 +87,13 @@ fn last_ready(file: &[u8], shape: Shape, number: usize, tops: &[u32]) -> usize
     latest
 }
 
-// The tops of all nodes, inputs first.
+// The tops of all nodes, inputs first, and zeros after them.
 pub fn tops(file: &[u8], shape: Shape, tops: &mut [u32])
     requires { ⌜ Holds (now file) shape × (shape .inputs + shape .gates ≤ length (now tops)) ⌝ }
-    ensures { λ _. ⌜ Tops (now (file .entry)) shape (now (tops .exit)) ⌝ }
+    ensures { λ _. ⌜ Topped (now (file .entry)) shape (length (now (tops .entry))) (now (tops .exit)) ⌝ }
 {
-    lent::zero_u32(tops);
+    lent::zero_u32(&mut tops[..shape.inputs]);
+    let nodes = shape.inputs + shape.gates;
     let mut i = 0;
     while i < shape.gates {
         let node = shape.inputs + i;
@@ -100,6 +101,7 @@ pub fn tops(file: &[u8], shape: Shape, tops: &mut [u32])
         tops[node] = top as u32;
         i += 1;
     }
+    lent::zero_rest_u32(tops, nodes);
 }
 
 // How many pairs stand before a key, by halves: from `least` to `most` of them.
@@ -133,15 +135,23 @@ pub fn starts(table: &[u32], count: usize, nodes: usize, starts: &mut [usize])
     }
 }
 
-// The place of a pair among the first `count` pairs of a table, by where its node's pairs begin and end.
+// The place of a pair among the first `count` pairs of a table: where it stands if its node's times follow one on the
+// other from the first, or else by halves.
 pub fn place(table: &[u32], count: usize, starts: &[usize], node: usize, time: usize) -> usize
     requires { ⌜ Findable (now table) count node time
         × Bounds (pairsIn (take (count * 2) (now table))) (now starts) node ⌝ }
     ensures { λ r. ⌜ ((pairs : List (ℕ × ℕ)) → Lists (now (table .entry)) count pairs → r ≡ placeOf node time pairs) ⌝ }
 {
+    let pairs = &table[..count * 2];
     let low = starts[node];
     let high = starts[node + 1];
-    pairs_before(&table[..count * 2], node * 4294967296 + time, low, high)
+    let near = low + (time - time_at(pairs, low));
+    if near < high {
+        if time_at(pairs, near) == time {
+            return near;
+        }
+    }
+    pairs_before(pairs, node * 4294967296 + time, low, high)
 }
 
 // Mark a time.
