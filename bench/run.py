@@ -109,14 +109,60 @@ def evaluation_cases(folder, dice):
 
 
 def building_cases(folder, dice, quick, program):
-    """Formulas of 1,000, 10,000 and 65,536 pairs, in just the room that they need: zeroing more is the same for all."""
+    """Formulas of 1,000, 10,000 and 65,536 pairs; of the largest netlist; and of a node that drives 1,500 pins."""
     for pairs in (1000, 10000) if quick else (1000, 10000, 65536):
         netlist = methods.ladders_for_pairs(dice, pairs)
-        path = write(folder, "netlist", document.write_netlist(netlist))
-        words = [path, str(methods.LADDER_TARGET), str(2 * pairs)]
-        ask = subprocess.run([*tools.runner(), program, "library", "build", "1", *words, "4000000"],
-                             capture_output=True, text=True, check=True)
-        yield f"build, {pairs:,} pairs", "build", [*words, ask.stdout.split()[-1]], 1, (pairs, "pair")
+        yield building_case(folder, program, f"{pairs:,} pairs", netlist, methods.LADDER_TARGET)
+    netlist = varied_netlist(dice)
+    yield building_case(folder, program, "the largest netlist at 3/4 of its top", netlist, top(netlist) * 3 // 4)
+    netlist = wide_driver(dice)
+    for quarters in 1, 2, 3:
+        yield building_case(folder, program, f"1,500 readers at {quarters}/4 of the top", netlist,
+                            top(netlist) * quarters // 4)
+
+
+def building_case(folder, program, name, netlist, target):
+    """A formula in just the room that it needs, since zeroing more is the same for all; or refused for its pairs."""
+    path = write(folder, "netlist", document.write_netlist(netlist))
+
+    def answer(pairs, numbers):
+        run = subprocess.run([*tools.runner(), program, "library", "build", "1", path, str(target), str(pairs),
+                              str(numbers)], capture_output=True, text=True, check=True)
+        return map(int, run.stdout.split())
+    most = 2 * document.MOST_PAIRS
+    number, pairs, _, numbers = answer(most, 90_000_000 // 16)
+    if number == document.PAIRS:
+        return f"build, {name}: refused", "build", [path, str(target), str(most), "0"], 1, (document.MOST_PAIRS, "pair")
+    arguments = [path, str(target), str(2 * pairs), str(numbers)]
+    return f"build, {name}: {pairs:,} pairs", "build", arguments, 1, (pairs, "pair")
+
+
+def top(netlist):
+    """The longest sum of delays to a node."""
+    tops = [0] * netlist.inputs
+    for gate in netlist.gates:
+        tops.append(max(tops[pin.driver] + pin.delay for pin in gate.pins))
+    return max(tops)
+
+
+def varied_netlist(dice):
+    """The largest netlist with delays of any size."""
+    netlist = methods.largest_netlist(dice)
+    gates = [document.Gate(gate.kind, [document.Pin(pin.driver, dice.randint(0, document.MOST_DELAY))
+                                       for pin in gate.pins]) for gate in netlist.gates]
+    return document.Netlist(netlist.inputs, gates, netlist.outputs)
+
+
+def wide_driver(dice):
+    """A chain of gates, each with one pin on the one before and seven on one node below them all, which some 20 gates
+    of the largest delay lead to."""
+    gates = [document.Gate(document.BUF, [document.Pin(node, document.MOST_DELAY)]) for node in range(20)]
+    driver = len(gates)
+    for _ in range(215):
+        pins = [document.Pin(len(gates), dice.randrange(100))]
+        pins += [document.Pin(driver, dice.randint(0, document.MOST_DELAY)) for _ in range(7)]
+        gates.append(document.Gate(dice.choice((document.AND, document.NAND, document.OR, document.NOR)), pins))
+    return document.Netlist(1, gates, [len(gates)])
 
 
 def checking_cases(folder, quick):

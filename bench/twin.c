@@ -254,16 +254,30 @@ static uint32_t settle(const netlist *n, const uint8_t *vector, uint8_t *values,
     return last;
 }
 
-/* Pairs. */
+/* Pairs. A node's wanted times are gathered as marks in a bitmap, from the pairs of the gates above it that it drives,
+ * which stand in the table's end already; read from the highest mark down they are the node's pairs.
+ */
+
+enum { MOST_TOP = MOST_GATES * MOST_DELAY, WORD = 64, WORDS = MOST_TOP / WORD + 1, NO_PIN = MOST_PINS };
 
 /* What a search for pairs and the writing of a formula both need. */
 typedef struct {
     const netlist *n;
     uint32_t target;
-    const uint32_t *tops;
-    const uint32_t *pairs; /* rising, two numbers each */
-    size_t count;
+    uint32_t tops[MOST_NODES];
+    size_t starts[MOST_NODES + 1]; /* where each node's pairs begin in the table */
 } lateness;
+
+/* The pins that each node drives, as chains that NO_PIN ends. */
+typedef struct {
+    uint16_t first[MOST_NODES], next[MOST_PINS], node[MOST_PINS];
+} readers;
+
+/* The times that are wanted of one node, and between which they lie. */
+typedef struct {
+    uint64_t marks[WORDS];
+    uint32_t least, most;
+} wanted;
 
 static void find_tops(const netlist *n, uint32_t *tops)
 {
@@ -280,84 +294,110 @@ static void find_tops(const netlist *n, uint32_t *tops)
     }
 }
 
-static uint64_t key(uint32_t node, uint32_t t)
+static void find_readers(const netlist *n, readers *r)
 {
-    return (uint64_t)node << 32 | t;
-}
-
-/* The number of pairs below (node, t), by halves. */
-static size_t place_of(const uint32_t *pairs, size_t count, uint32_t node, uint32_t t)
-{
-    size_t low = 0, high = count;
-    while (low < high) {
-        size_t middle = low + (high - low) / 2;
-        if (key(pairs[2 * middle], pairs[2 * middle + 1]) < key(node, t))
-            low = middle + 1;
-        else
-            high = middle;
-    }
-    return low;
-}
-
-/* The largest time below the limit at which the node is in the table, or 0. */
-static uint32_t latest(const uint32_t *pairs, size_t count, uint32_t node, uint32_t limit)
-{
-    size_t place = place_of(pairs, count, node, limit);
-    if (place == 0 || pairs[2 * place - 2] != node)
-        return 0;
-    return pairs[2 * place - 1];
-}
-
-/* The largest time below b at which the node is asked for, by an output or by a pin of a gate above; 0 for none. */
-static uint32_t asked(const lateness *l, uint32_t node, uint32_t b)
-{
-    const netlist *n = l->n;
-    uint32_t most = 0;
-    if (l->target < b)
-        for (uint32_t q = 0; q < n->output_count; q++)
-            if (output_at(n, q) == node)
-                most = l->target;
-    uint32_t g = node < n->inputs ? 0 : node + 1 - n->inputs;
-    for (; g < n->gate_count; g++) {
+    for (uint32_t node = 0; node < nodes_of(n); node++)
+        r->first[node] = NO_PIN;
+    for (uint32_t g = 0; g < n->gate_count; g++) {
         gate it = gate_at(n, g);
         for (uint32_t p = it.first; p < it.first + it.count; p++) {
-            if (driver_at(n, p) != node)
-                continue;
-            uint32_t delay = delay_at(n, p);
-            uint32_t s = latest(l->pairs, l->count, n->inputs + g, b + delay);
-            if (s > delay && s - delay > most)
-                most = s - delay;
+            uint32_t driver = driver_at(n, p);
+            r->next[p] = r->first[driver];
+            r->first[driver] = (uint16_t)p;
+            r->node[p] = (uint16_t)(n->inputs + g);
         }
     }
-    return most;
 }
 
-/* Fill the table from its end; the number of pairs, or SIZE_MAX where there are more than it may hold. */
-static size_t find_pairs(lateness *l, uint32_t *table, size_t length)
+static void mark(wanted *w, uint32_t t)
 {
-    size_t capacity = length / 2 < MOST_PAIRS ? length / 2 : MOST_PAIRS;
-    size_t at = capacity;
-    for (uint32_t node = nodes_of(l->n); node-- > l->n->inputs;) {
-        uint32_t b = l->tops[node] + 1;
-        for (;;) {
-            l->pairs = table + 2 * at;
-            l->count = capacity - at;
-            uint32_t t = asked(l, node, b);
-            if (t == 0)
-                break;
+    w->marks[t / WORD] |= (uint64_t)1 << t % WORD;
+    if (t < w->least)
+        w->least = t;
+    if (t > w->most)
+        w->most = t;
+}
+
+/* Mark what one pin of a gate wants of its driver: the times of the gate's pairs less the delay, where they are 1 to
+ * the driver's top. */
+static void mark_by_pin(wanted *w, const uint32_t *pairs, size_t count, uint32_t delay, uint32_t top)
+{
+    while (count > 0 && pairs[1] <= delay) {
+        pairs += 2;
+        count--;
+    }
+    while (count > 0 && pairs[2 * count - 1] - delay > top)
+        count--;
+    if (count == 0)
+        return;
+    mark(w, pairs[1] - delay);
+    mark(w, pairs[2 * count - 1] - delay);
+    for (size_t i = 1; i + 1 < count; i++) {
+        uint32_t t = pairs[2 * i + 1] - delay;
+        w->marks[t / WORD] |= (uint64_t)1 << t % WORD;
+    }
+}
+
+/* Put the wanted times before place `at` of the table, and take their marks away; the place of the first, or SIZE_MAX
+ * where the table has no room. */
+static size_t put_wanted(wanted *w, uint32_t *table, size_t at, uint32_t node)
+{
+    for (size_t word = w->most / WORD + 1; word-- > w->least / WORD;) {
+        uint64_t marks = w->marks[word];
+        w->marks[word] = 0;
+        while (marks != 0) {
+            uint32_t bit = WORD - 1 - (uint32_t)__builtin_clzll(marks);
+            marks ^= (uint64_t)1 << bit;
             if (at == 0)
                 return SIZE_MAX;
             at--;
             table[2 * at] = node;
-            table[2 * at + 1] = t;
-            b = t;
+            table[2 * at + 1] = (uint32_t)word * WORD + bit;
         }
+    }
+    return at;
+}
+
+/* Fill the table from its end, then move the pairs to its front; their number, or SIZE_MAX where there are more than it
+ * may hold. */
+static size_t find_pairs(lateness *l, uint32_t *table, size_t length)
+{
+    const netlist *n = l->n;
+    readers r;
+    wanted w;
+    uint8_t is_output[MOST_NODES] = {0};
+    uint32_t highest = 0;
+    for (uint32_t node = 0; node < nodes_of(n); node++)
+        if (l->tops[node] > highest)
+            highest = l->tops[node];
+    memset(w.marks, 0, (highest / WORD + 1) * sizeof *w.marks);
+    for (uint32_t q = 0; q < n->output_count; q++)
+        is_output[output_at(n, q)] = 1;
+    find_readers(n, &r);
+    size_t capacity = length / 2 < MOST_PAIRS ? length / 2 : MOST_PAIRS;
+    size_t at = capacity;
+    memset(l->starts, 0, n->inputs * sizeof *l->starts);
+    l->starts[nodes_of(n)] = at;
+    for (uint32_t node = nodes_of(n); node-- > n->inputs;) {
+        w.least = UINT32_MAX;
+        w.most = 0;
+        if (is_output[node] && l->target > 0 && l->target <= l->tops[node])
+            mark(&w, l->target);
+        for (uint32_t p = r.first[node]; p != NO_PIN; p = r.next[p]) {
+            const size_t *of = l->starts + r.node[p];
+            mark_by_pin(&w, table + 2 * of[0], of[1] - of[0], delay_at(n, p), l->tops[node]);
+        }
+        if (w.most > 0)
+            at = put_wanted(&w, table, at, node);
+        if (at == SIZE_MAX)
+            return SIZE_MAX;
+        l->starts[node] = at;
     }
     size_t count = capacity - at;
     memmove(table, table + 2 * at, 2 * count * sizeof *table);
     memset(table + 2 * count, 0, (length - 2 * count) * sizeof *table);
-    l->pairs = table;
-    l->count = count;
+    for (uint32_t node = n->inputs; node <= nodes_of(n); node++)
+        l->starts[node] -= at;
     return count;
 }
 
@@ -438,57 +478,88 @@ static void write_gate(writer *w, const netlist *n, uint32_t g)
         write_parity(w, n, it, n->inputs + g);
 }
 
-/* Put "node late at t" for a t above 0: nothing where t exceeds the top, the pair's variable otherwise. */
-static void put_late(writer *w, const lateness *l, uint32_t node, uint32_t t)
+/* A pin of a gate whose pairs are written: what drives it, and how far its driver's pairs have been passed. */
+typedef struct {
+    uint32_t driver, delay;
+    size_t next;
+    int32_t late; /* "driver late" as a literal, or one of the two below */
+} pin;
+
+enum { IS_LATE = -1, NOT_LATE = 0 };
+
+/* "Driver late at t less the delay". The times of a gate's pairs rise, so that those passed need not be seen again. */
+static int32_t late(const lateness *l, const uint32_t *table, pin *p, uint32_t t)
 {
-    if (t <= l->tops[node])
-        put(w, (int32_t)(nodes_of(l->n) + 1 + place_of(l->pairs, l->count, node, t)));
+    if (t <= p->delay)
+        return IS_LATE;
+    if (t - p->delay > l->tops[p->driver])
+        return NOT_LATE;
+    while (table[2 * p->next + 1] < t - p->delay)
+        p->next++;
+    return (int32_t)(nodes_of(l->n) + 1 + p->next);
 }
 
-/* "-p, or some driver late at t less its delay"; left out where one is surely late. */
-static void write_some_driver(writer *w, const lateness *l, gate it, int32_t p, uint32_t t)
+/* "-p, or some driver late": left out where one surely is. For a simple gate then, for each pin, "-p, driver late,
+ * driver is not c". */
+static void write_pair(writer *w, gate it, const pin *pins, int32_t variable, int some_surely)
 {
-    const netlist *n = l->n;
-    for (uint32_t pin = it.first; pin < it.first + it.count; pin++)
-        if (t <= delay_at(n, pin))
-            return;
-    put(w, -p);
-    for (uint32_t pin = it.first; pin < it.first + it.count; pin++)
-        put_late(w, l, driver_at(n, pin), t - delay_at(n, pin));
-    end_clause(w);
-}
-
-/* For each pin: "-p, driver late, driver is not c". */
-static void write_each_driver(writer *w, const lateness *l, gate it, int32_t p, uint32_t t)
-{
-    const netlist *n = l->n;
-    uint32_t c = controlling(it.kind);
-    for (uint32_t pin = it.first; pin < it.first + it.count; pin++) {
-        if (t <= delay_at(n, pin))
+    if (!some_surely) {
+        put(w, -variable);
+        for (uint32_t i = 0; i < it.count; i++)
+            if (pins[i].late != NOT_LATE)
+                put(w, pins[i].late);
+        end_clause(w);
+    }
+    if (!is_simple(it.kind))
+        return;
+    for (uint32_t i = 0; i < it.count; i++) {
+        if (pins[i].late == IS_LATE)
             continue;
-        put(w, -p);
-        put_late(w, l, driver_at(n, pin), t - delay_at(n, pin));
-        put(w, node_is(driver_at(n, pin), 1 - c));
+        put(w, -variable);
+        if (pins[i].late != NOT_LATE)
+            put(w, pins[i].late);
+        put(w, node_is(pins[i].driver, 1 - controlling(it.kind)));
         end_clause(w);
     }
 }
 
-static void write_formula(writer *w, const lateness *l)
+/* The clauses of all pairs of one gate. */
+static void write_pairs(writer *w, const lateness *l, const uint32_t *table, uint32_t g)
+{
+    const netlist *n = l->n;
+    gate it = gate_at(n, g);
+    pin pins[8];
+    for (uint32_t i = 0; i < it.count; i++) {
+        pins[i].driver = driver_at(n, it.first + i);
+        pins[i].delay = delay_at(n, it.first + i);
+        pins[i].next = l->starts[pins[i].driver];
+    }
+    for (size_t k = l->starts[n->inputs + g]; k < l->starts[n->inputs + g + 1]; k++) {
+        int some_surely = 0;
+        for (uint32_t i = 0; i < it.count; i++) {
+            pins[i].late = late(l, table, pins + i, table[2 * k + 1]);
+            some_surely |= pins[i].late == IS_LATE;
+        }
+        write_pair(w, it, pins, (int32_t)(nodes_of(n) + 1 + k), some_surely);
+    }
+}
+
+static void write_formula(writer *w, const lateness *l, const uint32_t *table)
 {
     const netlist *n = l->n;
     for (uint32_t g = 0; g < n->gate_count; g++)
         write_gate(w, n, g);
-    for (size_t i = 0; i < l->count; i++) {
-        gate it = gate_at(n, l->pairs[2 * i] - n->inputs);
-        int32_t p = (int32_t)(nodes_of(n) + 1 + i);
-        write_some_driver(w, l, it, p, l->pairs[2 * i + 1]);
-        if (is_simple(it.kind))
-            write_each_driver(w, l, it, p, l->pairs[2 * i + 1]);
-    }
+    for (uint32_t g = 0; g < n->gate_count; g++)
+        write_pairs(w, l, table, g);
     if (l->target == 0)
         return;
-    for (uint32_t q = 0; q < n->output_count; q++)
-        put_late(w, l, output_at(n, q), l->target);
+    for (uint32_t q = 0; q < n->output_count; q++) {
+        pin it = {output_at(n, q), 0, 0, 0};
+        it.next = l->starts[it.driver];
+        it.late = late(l, table, &it, l->target);
+        if (it.late != NOT_LATE)
+            put(w, it.late);
+    }
     end_clause(w);
 }
 
@@ -496,14 +567,15 @@ static void write_formula(writer *w, const lateness *l)
 static refusal build_opened(const netlist *n, uint32_t target, uint32_t *pairs, size_t pairs_length,
                             int32_t *formula, size_t formula_length, buzzlumen_built *built)
 {
-    uint32_t tops[MOST_NODES];
-    find_tops(n, tops);
-    lateness l = {n, target, tops, pairs, 0};
+    lateness l;
+    l.n = n;
+    l.target = target;
+    find_tops(n, l.tops);
     size_t count = find_pairs(&l, pairs, pairs_length);
     if (count == SIZE_MAX)
         return refuse(BUZZLUMEN_PAIRS, 0);
     writer w = {formula, formula_length, 0, 0};
-    write_formula(&w, &l);
+    write_formula(&w, &l, pairs);
     if (w.numbers > formula_length)
         return refuse(BUZZLUMEN_ROOM, w.numbers);
     memset(formula + w.numbers, 0, (formula_length - w.numbers) * sizeof *formula);

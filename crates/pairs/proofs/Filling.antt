@@ -1,7 +1,7 @@
 -- The loop that fills the table: its end holds the pairs of the least set from the key (f, b) on, so that at the end it
 -- holds all, and where one more is asked for and no room is left there are too many. Laws: filling-starts,
--- filling-bound, filling-top, filling-sorted, filling-down, filling-more, filling-ready, filling-full, filling-ends.
--- Assumes nothing.
+-- filling-bound, filling-top, filling-sorted, filling-asks, filling-asked, filling-down, filling-more, filling-full,
+-- filling-ends. Assumes nothing.
 use mathlib.Core.Path.{_≡_, refl, sym, ap, ap₂, subst, _∙_}
 use mathlib.Core.Logic.{_⊎_, inl, inr}
 use mathlib.Core.List.{
@@ -28,14 +28,13 @@ use Rattle.settle.specs.Settling.{topOf}
 use Rattle.settle.proofs.Nodes.{tops-small}
 use Rattle.pairs.specs.Pairs.{flatPairs, pairsFor, pairList}
 use Rattle.pairs.specs.Rising.{Before, Rising}
-use Rattle.pairs.specs.Table.{pairsIn, keyOf, Sorted, Most, Asks, Ready}
+use Rattle.pairs.specs.Table.{pairsIn, keyOf, Sorted, Within, Asks}
 use Rattle.pairs.specs.Promise.{Tops, pairsAt}
 use Rattle.pairs.proofs.Least.{is-pair}
 use Rattle.pairs.proofs.Rising.{before-irreflexive, before-transitive, above-of, pairs-rising}
 use Rattle.pairs.proofs.Unique.{rising-short, pairs-unique, asked-pairs}
 use Rattle.pairs.proofs.Flat.{part, pairs-flat}
 use Rattle.pairs.proofs.Search.{of-key, rising-sorted}
-use Rattle.pairs.proofs.Reading.{ready-more}
 use Rattle.pairs.proofs.Topping.{top-read}
 use Rattle.pairs.proofs.Step.{AskedAt, facts-of, stepped, asked-of}
 
@@ -113,161 +112,143 @@ module _ {file : List ℕ} {shape : Shape} (holds : Holds file shape) (target : 
         rw (seen w)
         (rising-sorted (w .done) (w .rising) (λ x m. omega (arith, facts (x .0) (x .1) (w .sound x m) .4)))
 
-    -- t is what `asks` gives of the table's end
-    module _ (t : ℕ)
-        (most :
-        Most (Asks (pairsIn (take (length table - at * 2) (drop (at * 2) table))) file shape target (shape .gates) f) b
-        t)
-      where
-        largest : Most (Asks (w .done) file shape target (shape .gates) f) b t
-        largest = rw (seen w) at most
+    -- what asks for f from 1 to its top, where the pairs are found from there on, is what is asked of f
+    pub filling-asks : (x : ℕ) → x ≡ top f → (t : ℕ) →
+        Within x (Asks (foundIn table at) file shape target (shape .gates) f) t → A f t × (t < x + 1)
+    filling-asks x e t u = (
+      asked-of holds target (w .done) f t (rw (seen w) at (u .has)) (w .sound)
+          (is-pair (net .inputs) top (net .outputs) target f t (omega (arith, w .node, net-inputs file shape)) (u .some)
+          (omega (arith, u .few))),
+      omega (arith, u .few),
+    )
 
-        -- a pair of node f that is asked for and is not found yet is at most t
-        at-most : (s : ℕ) → A f s → s < b → s ≤ t
-        at-most s a h =
-            largest .most s
-            (stepped holds target (w .done) f s a λ n r l q.
-            w .full n r q (omega (arith, facts n r q .4, small f, w .bound)))
-            h
+    pub filling-asked : (x : ℕ) → x + 1 ≡ b → (t : ℕ) → A f t → t < x + 1 →
+        Within x (Asks (foundIn table at) file shape target (shape .gates) f) t
+    filling-asked x e t a h =
+        record {
+          some = facts f t a .2;
+          few = omega arith;
+          has =
+              rw (seen w)
+              (stepped holds target (w .done) f t a λ n r l q.
+              w .full n r q (omega (arith, facts n r q .4, small f, w .bound)));
+        }
 
-        -- what is asked for from (f, t) on
-        from-here : (n s : ℕ) → A n s → keyOf (f, t) ≤ keyOf (n, s) →
-            List·Memᴰ (n, s) (w .done) ⊎ ((n ≡ f) × (s ≡ t) × (s < b))
-        from-here n s a h = go (decLe (keyOf (f, b)) (keyOf (n, s)))
-          where
-            go : Dec (keyOf (f, b) ≤ keyOf (n, s)) → List·Memᴰ (n, s) (w .done) ⊎ ((n ≡ f) × (s ≡ t) × (s < b))
-            go (yes l) = inl (w .full n s a l)
-            go (no l) =
-                let e : n ≡ f = omega (arith, facts n s a .4, small f, w .bound) in
-                let k : s ≤ t = at-most s (subst (λ (x : ℕ). A x s) e a) (omega arith) in
-                inr (e, omega arith, omega arith)
+    -- nothing more of node f
+    module _ (none : (s : ℕ) → A f s → s < b → ⊥) where
+      -- all that is asked of f and the nodes above it is found
+      from-here : (n s : ℕ) → A n s → f ≤ n → List·Memᴰ (n, s) (w .done)
+      from-here n s a h = go (decLe (keyOf (f, b)) (keyOf (n, s)))
+        where
+          go : Dec (keyOf (f, b) ≤ keyOf (n, s)) → List·Memᴰ (n, s) (w .done)
+          go (yes l) = w .full n s a l
+          go (no l) =
+              let e : n ≡ f = omega (arith, facts n s a .4, small f, w .bound) in
+              absurd (none s (subst (λ (x : ℕ). A x s) e a) (omega arith))
 
-        -- nothing more of node f: on to the node below, whose top is x
-        pub filling-down : {tops : List ℕ} → t ≡ 0 → shape .inputs < f → Tops file shape tops → (x b′ : ℕ) →
-            x ≡ getD tops (f - 1) 0 → b′ ≡ x + 1 → Filling file shape target table₀ table at (f - 1) b′
-        filling-down z h tops x b′ q i =
-            let e = top-read holds (f - 1) x tops (omega (arith, w .nodes)) q .0 in
-            record {
-              done = w .done;
-              len = w .len;
-              even = w .even;
-              is = w .is;
-              room = w .room;
-              node = omega arith;
-              nodes = omega (arith, w .nodes);
-              bound = omega arith;
-              rising = w .rising;
-              sound = w .sound;
-              low = λ x m. omega (arith, w .low x m, small (f - 1));
-              full = λ n s a k. more n s a (omega arith) (decLe (keyOf (f, t)) (keyOf (n, s)));
-            }
-          where
-            more : (n s : ℕ) → A n s → keyOf (f - 1, top (f - 1) + 1) ≤ keyOf (n, s) →
-                Dec (keyOf (f, t) ≤ keyOf (n, s)) → List·Memᴰ (n, s) (w .done)
-            more n s a k (yes l) = pick (from-here n s a l)
-              where
-                pick : List·Memᴰ (n, s) (w .done) ⊎ ((n ≡ f) × (s ≡ t) × (s < b)) → List·Memᴰ (n, s) (w .done)
-                pick (inl m) = m
-                pick (inr q) = absurd (omega (arith, q .1, facts n s a .2))
-            more n s a k (no l) =
-                let q : n ≡ f - 1 = omega (arith, facts n s a .4) in
-                let r : top n ≡ top (f - 1) = ap top q in
-                absurd (omega (arith, facts n s a .3))
+      -- on to the node below, whose top is x
+      pub filling-down : {tops : List ℕ} → shape .inputs < f → Tops file shape tops → (x : ℕ) →
+          x ≡ getD tops (f - 1) 0 → Filling file shape target table₀ table at (f - 1) (x + 1)
+      filling-down h tops x q =
+          let e = top-read holds (f - 1) x tops (omega (arith, w .nodes)) q .0 in
+          record {
+            done = w .done;
+            len = w .len;
+            even = w .even;
+            is = w .is;
+            room = w .room;
+            node = omega arith;
+            nodes = omega (arith, w .nodes);
+            bound = omega arith;
+            rising = w .rising;
+            sound = w .sound;
+            low = λ y m. omega (arith, w .low y m, small (f - 1));
+            full = λ n s a k. more n s a (omega arith) (decLe f n);
+          }
+        where
+          more : (n s : ℕ) → A n s → keyOf (f - 1, top (f - 1) + 1) ≤ keyOf (n, s) → Dec (f ≤ n) →
+              List·Memᴰ (n, s) (w .done)
+          more n s a k (yes l) = from-here n s a l
+          more n s a k (no l) =
+              let q : n ≡ f - 1 = omega (arith, facts n s a .4) in
+              let r : top n ≡ top (f - 1) = ap top q in
+              absurd (omega (arith, facts n s a .3))
 
-        module _ (pos : 0 < t) where
-          next : A f t × (t < b)
-          next =
-              let q = largest .found pos in (
-                asked-of holds target (w .done) f t (q .0) (w .sound)
-                    (is-pair (net .inputs) top (net .outputs) target f t
-                    (omega (arith, w .node, net-inputs file shape)) pos (omega (arith, q .1, w .bound))),
-                q .1,
-              )
+      -- or all are found
+      pub filling-ends : f ≤ shape .inputs →
+          (at + length (pairsAt file shape target) ≡ length table₀ / 2)
+          × (drop (at * 2) table ≡ flatPairs (pairsAt file shape target))
+      unfolding pairsFor
+      filling-ends h =
+          let e : w .done ≡ pairList (net .inputs) top (net .outputs) target (net .gates) =
+          pairs-unique (net .inputs) top (net .outputs) target (net .gates) (valid-gates net (holds .valid))
+          (valid-outputs net (holds .valid)) (w .done) (w .rising)
+          (λ n s. (λ m. w .sound (n, s) m, λ a. from-here n s a (omega (arith, facts n s a .0))))
+          in
+          (ap (λ (x : List (ℕ × ℕ)). at + length x) (sym e) ∙ w .room, w .is ∙ ap flatPairs e)
 
-          longer : Rising Before ((f, t) ∷ w .done)
-          longer = (
-            above-of Before (f, t) (w .done)
-                (λ x m.
-                of-key (f, t) x (omega (arith, facts (x .0) (x .1) (w .sound x m) .4))
-                (omega (arith, w .low x m, next .1))),
-            w .rising,
-          )
+    -- t is the largest time below b that is asked of f
+    module _ (t : ℕ) (found : A f t × (t < b)) where
+      longer : Rising Before ((f, t) ∷ w .done)
+      longer = (
+        above-of Before (f, t) (w .done)
+            (λ x m.
+            of-key (f, t) x (omega (arith, facts (x .0) (x .1) (w .sound x m) .4))
+            (omega (arith, w .low x m, found .1))),
+        w .rising,
+      )
 
-          sounder : (x : ℕ × ℕ) → List·Memᴰ x ((f, t) ∷ w .done) → A (x .0) (x .1)
-          sounder x m = pick (List·Memᴰ·cases-cons m)
-            where
-              pick : (x ≡ (f, t)) ⊎ List·Memᴰ x (w .done) → A (x .0) (x .1)
-              pick (inl e) = subst (λ (y : ℕ × ℕ). A (y .0) (y .1)) (sym e) (next .0)
-              pick (inr i) = w .sound x i
+      sounder : (x : ℕ × ℕ) → List·Memᴰ x ((f, t) ∷ w .done) → A (x .0) (x .1)
+      sounder x m = pick (List·Memᴰ·cases-cons m)
+        where
+          pick : (x ≡ (f, t)) ⊎ List·Memᴰ x (w .done) → A (x .0) (x .1)
+          pick (inl e) = subst (λ (y : ℕ × ℕ). A (y .0) (y .1)) (sym e) (found .0)
+          pick (inr i) = w .sound x i
 
-          -- one more pair
-          pub filling-more : (table′ : List ℕ) → 0 < at → length table′ ≡ length table →
-              drop ((at - 1) * 2) table′ ≡ f ∷ t ∷ drop ((at - 1) * 2 + 2) table →
-              Filling file shape target table₀ table′ (at - 1) f t
-          unfolding flatPairs
-          filling-more table′ h l e =
-              let q : (at - 1) * 2 + 2 ≡ at * 2 = omega arith in
-              record {
-                done = (f, t) ∷ w .done;
-                len = l ∙ w .len;
-                even = w .even;
-                is = e ∙ ap (λ (x : List ℕ). f ∷ t ∷ x) (ap (λ (n : ℕ). drop n table) q ∙ w .is);
-                room = omega (arith, w .room);
-                node = w .node;
-                nodes = w .nodes;
-                bound = omega (arith, w .bound, next .1);
-                rising = longer;
-                sound = sounder;
-                low = λ x m. lower x (List·Memᴰ·cases-cons m);
-                full = λ n s a k. pick n s (from-here n s a k);
-              }
-            where
-              lower : (x : ℕ × ℕ) → (x ≡ (f, t)) ⊎ List·Memᴰ x (w .done) → keyOf (f, t) ≤ keyOf x
-              lower x (inl i) = rw i (omega arith)
-              lower x (inr i) = omega (arith, w .low x i, next .1)
+      -- one more pair
+      pub filling-more : ((s : ℕ) → A f s → s < b → s ≤ t) → (table′ : List ℕ) → 0 < at →
+          length table′ ≡ length table → drop ((at - 1) * 2) table′ ≡ f ∷ t ∷ drop ((at - 1) * 2 + 2) table →
+          Filling file shape target table₀ table′ (at - 1) f t
+      unfolding flatPairs
+      filling-more most table′ h l e =
+          let q : (at - 1) * 2 + 2 ≡ at * 2 = omega arith in
+          record {
+            done = (f, t) ∷ w .done;
+            len = l ∙ w .len;
+            even = w .even;
+            is = e ∙ ap (λ (x : List ℕ). f ∷ t ∷ x) (ap (λ (n : ℕ). drop n table) q ∙ w .is);
+            room = omega (arith, w .room);
+            node = w .node;
+            nodes = w .nodes;
+            bound = omega (arith, w .bound, found .1);
+            rising = longer;
+            sound = sounder;
+            low = λ x m. lower x (List·Memᴰ·cases-cons m);
+            full = λ n s a k. more n s a k (decLe (keyOf (f, b)) (keyOf (n, s)));
+          }
+        where
+          lower : (x : ℕ × ℕ) → (x ≡ (f, t)) ⊎ List·Memᴰ x (w .done) → keyOf (f, t) ≤ keyOf x
+          lower x (inl i) = rw i (omega arith)
+          lower x (inr i) = omega (arith, w .low x i, found .1)
 
-              pick : (n s : ℕ) → List·Memᴰ (n, s) (w .done) ⊎ ((n ≡ f) × (s ≡ t) × (s < b)) →
-                  List·Memᴰ (n, s) ((f, t) ∷ w .done)
-              pick n s (inl m) = List·Memᴰ·tail m
-              pick n s (inr q) = List·Memᴰ·head (ap₂ (λ (x y : ℕ). (x, y)) (q .0) (q .1))
+          more : (n s : ℕ) → A n s → keyOf (f, t) ≤ keyOf (n, s) → Dec (keyOf (f, b) ≤ keyOf (n, s)) →
+              List·Memᴰ (n, s) ((f, t) ∷ w .done)
+          more n s a k (yes i) = List·Memᴰ·tail (w .full n s a i)
+          more n s a k (no i) =
+              let q : n ≡ f = omega (arith, facts n s a .4, small f, w .bound) in
+              let r : s ≡ t = omega (arith, most s (subst (λ (x : ℕ). A x s) q a) (omega arith)) in
+              List·Memᴰ·head (ap₂ (λ (x y : ℕ). (x, y)) q r)
 
-          -- for which the readers are ready
-          pub filling-ready : {readers passed : List ℕ} {n : ℕ} (table′ : List ℕ) → 0 < at →
-              length table′ ≡ length table → drop ((at - 1) * 2) table′ ≡ f ∷ t ∷ drop ((at - 1) * 2 + 2) table →
-              Ready (foundIn table at) file shape f b readers passed n →
-              Ready (foundIn table′ (at - 1)) file shape f t readers passed n
-          unfolding filling-more
-          filling-ready table′ h l e r =
-              rw (seen (filling-more table′ h l e)) (ready-more t (omega (arith, next .1)) (rw (seen w) at r))
-
-          -- one more pair than there is room for
-          pub filling-full : at ≡ 0 → length table₀ / 2 < length (pairsAt file shape target)
-          unfolding pairsFor
-          filling-full e =
-              let k =
-              rising-short Before before-irreflexive before-transitive ((f, t) ∷ w .done)
-              (pairList (net .inputs) top (net .outputs) target (net .gates)) longer
-              (pairs-rising (net .inputs) top (net .outputs) target (net .gates))
-              (λ x m.
-              asked-pairs (net .inputs) top (net .outputs) target (net .gates) (valid-gates net (holds .valid))
-              (valid-outputs net (holds .valid)) (x .0) (x .1) (sounder x m))
-              in
-              omega (arith, w .room)
-
-        -- all are found
-        pub filling-ends : t ≡ 0 → f ≤ shape .inputs →
-            (at + length (pairsAt file shape target) ≡ length table₀ / 2)
-            × (drop (at * 2) table ≡ flatPairs (pairsAt file shape target))
-        unfolding pairsFor
-        filling-ends z h =
-            let e : w .done ≡ pairList (net .inputs) top (net .outputs) target (net .gates) =
-            pairs-unique (net .inputs) top (net .outputs) target (net .gates) (valid-gates net (holds .valid))
-            (valid-outputs net (holds .valid)) (w .done) (w .rising)
-            (λ n s. (λ m. w .sound (n, s) m, λ a. pick n s a (from-here n s a (omega (arith, facts n s a .0)))))
-            in
-            (ap (λ (x : List (ℕ × ℕ)). at + length x) (sym e) ∙ w .room, w .is ∙ ap flatPairs e)
-          where
-            pick : (n s : ℕ) → A n s → List·Memᴰ (n, s) (w .done) ⊎ ((n ≡ f) × (s ≡ t) × (s < b)) →
-                List·Memᴰ (n, s) (w .done)
-            pick n s a (inl m) = m
-            pick n s a (inr q) = absurd (omega (arith, q .1, facts n s a .2))
+      -- one more pair than there is room for
+      pub filling-full : at ≡ 0 → length table₀ / 2 < length (pairsAt file shape target)
+      unfolding pairsFor
+      filling-full e =
+          let k =
+          rising-short Before before-irreflexive before-transitive ((f, t) ∷ w .done)
+          (pairList (net .inputs) top (net .outputs) target (net .gates)) longer
+          (pairs-rising (net .inputs) top (net .outputs) target (net .gates))
+          (λ x m.
+          asked-pairs (net .inputs) top (net .outputs) target (net .gates) (valid-gates net (holds .valid))
+          (valid-outputs net (holds .valid)) (x .0) (x .1) (sounder x m))
+          in
+          omega (arith, w .room)

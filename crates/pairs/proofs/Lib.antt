@@ -7,10 +7,13 @@ pub mod Unique
 pub mod Closed
 pub mod Flat
 pub mod Search
-pub mod Largest
-pub mod Reading
+pub mod Bits
+pub mod Marking
+pub mod Asking
+pub mod Scanning
 pub mod Moving
 pub mod Topping
 pub mod Step
 pub mod Filling
+pub mod Finding
 pub mod Whole

@@ -1,7 +1,7 @@
 -- The search by halves: all before `low` are before the key, none from `high` on is, and half of what is between goes
 -- at each turn. A pair of the list stands where the search for its key ends. Laws: searching-starts, searching-up,
--- searching-down, searching-ends, searching-node; begins-at, begins-more; sorted-le, rising-sorted; lists-sorted,
--- lists-long, place-found. Assumes nothing.
+-- searching-down, searching-ends, searching-from, searching-node; precede-le, node-precede; begins-at, begins-more;
+-- sorted-le, rising-sorted; lists-sorted, lists-long, first-early, place-found. Assumes nothing.
 use mathlib.Core.Path.{_≡_, refl, sym, ap, subst, _∙_}
 use mathlib.Core.Logic.{inl, inr}
 use mathlib.Core.List.{List, [], _∷_, List·Memᴰ, List·Memᴰ·head, List·Memᴰ·tail}
@@ -16,7 +16,7 @@ use Rattle.pairs.specs.Table.{pairsIn, pairAt, keyOf, Sorted, Searching,
 use Rattle.pairs.specs.Promise.{Lists, Findable, Bounds, Begins}
 use Rattle.pairs.proofs.Rising.{above-at}
 use Rattle.pairs.proofs.Closed.{place-below, place-at}
-use Rattle.pairs.proofs.Flat.{mem-at, pairs-flat, flat-length}
+use Rattle.pairs.proofs.Flat.{mem-at, at-mem, pairs-flat, flat-length}
 
 -- ---- keys for the order of pairs
 
@@ -97,31 +97,55 @@ searching-ends b h =
       after = λ k w v. b .after k (omega arith) v;
     }
 
+-- fewer pairs stand before a smaller key
+pub precede-le : {l : List (ℕ × ℕ)} {low high j k : ℕ} → Precede l low j → Precede l high k → low ≤ high → j ≤ k
+precede-le {j = j} {k = k} p q h = go (decLt k j)
+  where
+    go : Dec (k < j) → j ≤ k
+    go (yes i) = absurd (omega (arith, p .before k i, q .after k (omega arith) (omega (arith, p .within))))
+    go (no i) = omega arith
+
+-- and the search for a larger key may start there
+pub searching-from : {l : List (ℕ × ℕ)} {low k : ℕ} (high n : ℕ) → Precede l low k → low ≤ high → n ≡ length l →
+    Searching l high k n
+searching-from high n p h e =
+    record {
+      upto = omega (arith, p .within);
+      within = omega arith;
+      before = λ j i. omega (arith, p .before j i);
+      after = λ j i w. absurd (omega arith);
+    }
+
 -- the pairs of a node stand from where they begin to where those of the next do
 pub searching-node : {l : List (ℕ × ℕ)} {starts : List ℕ} (node time : ℕ) → time < 4294967296 →
     Bounds l starts node → Searching l (node * 4294967296 + time) (getD starts node 0) (getD starts (node + 1) 0)
-searching-node {l} {starts} node time h w =
+searching-node node time h w =
     record {
-      upto = go (decLt (getD starts (node + 1) 0) (getD starts node 0));
+      upto = precede-le (w .low) (w .high) (omega arith);
       within = w .high .within;
       before = λ k i. omega (arith, w .low .before k i);
       after = λ k i j. omega (arith, w .high .after k i j);
     }
-  where
-    go : Dec (getD starts (node + 1) 0 < getD starts node 0) → getD starts node 0 ≤ getD starts (node + 1) 0
-    go (yes i) =
-        absurd
-        (omega (
-          arith,
-          w .low .before (getD starts (node + 1) 0) i,
-          w .high .after (getD starts (node + 1) 0) (omega arith) (omega (arith, w .low .within)),
-        ))
-    go (no i) = omega arith
 
 pub begins-at : {l : List (ℕ × ℕ)} {starts : List ℕ} {nodes : ℕ} (node : ℕ) → Begins l starts nodes → node < nodes →
     Bounds l starts node
 begins-at node w h =
     record { room = omega (arith, w .room); low = w .at node (omega arith); high = w .at (node + 1) (omega arith) }
+
+-- a pair among those of its node, by its time
+pub node-precede : {l : List (ℕ × ℕ)} {starts : List ℕ} (node time k : ℕ) → Sorted l → Bounds l starts node →
+    getD starts node 0 ≤ k → k < getD starts (node + 1) 0 → pairAt l k .1 ≡ time →
+    Precede l (node * 4294967296 + time) k
+node-precede {l} node time k s w low high e =
+    let within : k < length l = omega (arith, w .high .within) in
+    let same : keyOf (pairAt l k) ≡ node * 4294967296 + time =
+    omega (arith, w .low .after k low within, w .high .before k high, s .small k)
+    in
+    record {
+      within = omega arith;
+      before = λ j h. omega (arith, s .up j k h within);
+      after = λ j h i. omega (arith, sorted-le s k j h i);
+    }
 
 -- the first `node` are stored, and then one more
 pub begins-more : {l : List (ℕ × ℕ)} {node : ℕ} (starts : List ℕ) (p : ℕ) →
@@ -160,6 +184,40 @@ pub lists-long : {table : List ℕ} {count : ℕ} {pairs : List (ℕ × ℕ)} �
     count * 2 ≤ length table
 lists-long {table} {count} {pairs} w =
     omega (arith, length-take (count * 2) table, ap length (w .is), flat-length pairs, w .all)
+
+-- a node with a listed pair has a first pair, whose time is not later
+pub first-early : {table : List ℕ} {count node time : ℕ} {starts : List ℕ} → Findable table count node time →
+    Bounds (pairsIn (take (count * 2) table)) starts node →
+    (getD starts node 0 < length (pairsIn (take (count * 2) table)))
+    × (pairAt (pairsIn (take (count * 2) table)) (getD starts node 0) .1 ≤ time)
+first-early {table} {count} {node} {time} {starts} w b =
+    let l = pairsIn (take (count * 2) table) in
+    let here = subst (λ (x : List (ℕ × ℕ)). List·Memᴰ (node, time) x) (sym (lists-in (w .lists))) (w .here) in
+    go (at-mem (0, 0) l (node, time) here)
+  where
+    go : (k : ℕ) × (k < length (pairsIn (take (count * 2) table)))
+        × (getD (pairsIn (take (count * 2) table)) k (0, 0) ≡ (node, time)) →
+        (getD starts node 0 < length (pairsIn (take (count * 2) table)))
+        × (pairAt (pairsIn (take (count * 2) table)) (getD starts node 0) .1 ≤ time)
+    go i = pick (decLt (i .0) (getD starts node 0))
+      where
+        pick : Dec (i .0 < getD starts node 0) →
+            (getD starts node 0 < length (pairsIn (take (count * 2) table)))
+            × (pairAt (pairsIn (take (count * 2) table)) (getD starts node 0) .1 ≤ time)
+        pick (yes h) = absurd (omega (arith, b .low .before (i .0) h, ap keyOf (i .2)))
+        pick (no h) =
+            let s = lists-sorted (w .lists) in
+            let some : getD starts node 0 < length (pairsIn (take (count * 2) table)) = omega (arith, i .1) in (
+              some,
+              omega (
+                arith,
+                sorted-le s (getD starts node 0) (i .0) (omega arith) (i .1),
+                b .low .after (getD starts node 0) (omega arith) some,
+                ap keyOf (i .2),
+                s .small (getD starts node 0),
+                w .lists .times-small (node, time) (w .here),
+              ),
+            )
 
 -- the search for a listed pair's key ends at the pair's place, whatever list of pairs the table is taken for
 pub place-found : {table : List ℕ} {count node time : ℕ} (r : ℕ) → Findable table count node time →

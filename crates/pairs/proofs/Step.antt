@@ -92,12 +92,10 @@ module _ {file : List ℕ} {shape : Shape} (holds : Holds file shape) (target : 
       (record {
         pin = v .0 - firstAt file shape (w .0);
         within = omega (arith, v .1, v .2);
+        drives = ap (driverAt file shape) k ∙ sym drives;
         asks =
-            subst
-            (λ (x : ℕ). PinAsks l (shape .inputs + w .0) (p .driver) (driverAt file shape x) (delayAt file shape x)
-            (s - p .delay)) (sym k)
+            subst (λ (x : ℕ). PinAsks l (shape .inputs + w .0) (delayAt file shape x) (s - p .delay)) (sym k)
             (record {
-              drives = sym drives;
               has =
                   subst (λ (x : ℕ × ℕ). List·Memᴰ x l) (ap₂ (λ (x y : ℕ). (x, y)) at back)
                   (h n s below a);
@@ -116,7 +114,7 @@ module _ {file : List ℕ} {shape : Shape} (holds : Holds file shape) (target : 
       let delay = delayAt file shape (firstAt file shape j + u .pin) in
       let m = node-has file shape j w in
       let own = pin-has file shape j pin (omega arith) (omega (arith, u .within)) in
-      let drives : pinAt file shape pin .driver ≡ f = pin-driver file shape pin ∙ u .asks .drives in
+      let drives : pinAt file shape pin .driver ≡ f = pin-driver file shape pin ∙ u .drives in
       let delays : pinAt file shape pin .delay ≡ delayAt file shape (firstAt file shape j + u .pin) =
       pin-delay file shape pin
       in

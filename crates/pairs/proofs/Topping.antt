@@ -1,15 +1,29 @@
 -- The tops of all nodes, one gate after the other: the nodes before a gate have their tops, and the gate's is when its
 -- last pin is ready by these. Laws: readying-starts, readying-more, readying-ends; topping-starts, topping-small,
--- topping-more, topping-ends; top-read, tops-long. Assumes nothing.
+-- topping-more, topping-ends; topped-tops, top-read, tops-long. Assumes nothing.
 use mathlib.Core.Path.{_≡_, sym, ap, ap₂, _∙_}
 use mathlib.Core.Bool.{false}
-use mathlib.Core.List.{List}
-use Prim.Native.Nat.{ℕ, suc, _+_, _<_, _≤_, max}
+use mathlib.Core.List.{List, _++_}
+use Prim.Native.Nat.{ℕ, suc, _+_, _-_, _<_, _≤_, max}
 use native.Mathlib.Omega.{arith}
 use native.Mathlib.Numerals.{add-one}
 use native.Mathlib.Decide.{ℕ-discrete}
-use lib.ListN.{length, getD, set, take, drop, replicate, length-set, length-take, length-replicate, getD-replicate}
-use lib.Seq.{length-take-le, getD-take, getD-set-same, getD-set-other, ext-getD}
+use lib.ListN.{
+  length,
+  getD,
+  set,
+  take,
+  drop,
+  replicate,
+  length-set,
+  length-take,
+  length-drop,
+  length-append,
+  length-replicate,
+  getD-replicate,
+  List·getD-append,
+}
+use lib.Seq.{length-take-le, take-at, getD-take, getD-set-same, getD-set-other, ext-getD}
 use Rattle.netlist.specs.declared.Shape.{Shape}
 use Rattle.netlist.specs.declared.Gate.{Gate}
 use Rattle.netlist.specs.Netlist.{Netlist}
@@ -19,8 +33,8 @@ use Rattle.netlist.proofs.Entries.{pin-driver, pin-delay, pins-from, pins-done,
 use Rattle.netlist.proofs.GateRead.{gate-fields}
 use Rattle.settle.specs.Settling.{last, readyAt, topOf, topsOf}
 use Rattle.settle.proofs.Argument.{last-cong}
-use Rattle.settle.proofs.Nodes.{laid, runs, input-top, tops-length, tops-small, Arrives, zero-arrives}
-use Rattle.pairs.specs.Promise.{Tops}
+use Rattle.settle.proofs.Nodes.{laid, runs, input-top, tops-length, tops-small}
+use Rattle.pairs.specs.Promise.{Topped, Tops}
 
 -- ---- when the last pin of a gate is ready
 
@@ -82,16 +96,24 @@ module _ {file : List ℕ} {shape : Shape} (holds : Holds file shape) where
   zeros : Arrives (circuitAt file shape)
   zeros = zero-arrives net
 
-  pub topping-starts : (tops : List ℕ) (n : ℕ) → shape .inputs + shape .gates ≤ n → tops ≡ replicate n 0 →
-      Topping file shape tops 0
-  topping-starts tops n h e =
+  -- the inputs' tops are 0
+  pub topping-starts : (tops zeroed : List ℕ) → shape .inputs + shape .gates ≤ length tops →
+      zeroed ≡ replicate (length (take (shape .inputs) tops)) 0 →
+      Topping file shape (zeroed ++ drop (shape .inputs) tops) 0
+  topping-starts tops zeroed h e =
+      let m = length (take (shape .inputs) tops) in
+      let some : length (take (shape .inputs) tops) ≡ shape .inputs =
+      length-take-le (shape .inputs) tops (omega arith)
+      in
+      let n : length zeroed ≡ shape .inputs = ap length e ∙ length-replicate m 0 ∙ some in
       record {
-        long = omega (arith, ap length e ∙ length-replicate n 0);
+        long = simp (length-append, length-drop) (omega arith);
         is =
             λ k l.
             let i : k < netlistAt file shape .inputs = omega (arith, net-inputs file shape) in
-            ap (λ (x : List ℕ). getD x k 0) e
-            ∙ getD-replicate {A = ℕ} n k 0 0 (omega arith)
+            List·getD-append zeroed (drop (shape .inputs) tops) 0 k (omega arith)
+            ∙ ap (λ (x : List ℕ). getD x k 0) e
+            ∙ getD-replicate {A = ℕ} m k 0 0 (omega arith)
             ∙ sym (getD-replicate {A = ℕ} (net .inputs) k 0 0 i)
             ∙ sym (input-top (circuitAt file shape) zeros k i);
       }
@@ -140,17 +162,33 @@ module _ {file : List ℕ} {shape : Shape} (holds : Holds file shape) where
           ∙ ap (topOf (circuitAt file shape)) (sym q)
       pick k l (no q) = getD-set-other tops (shape .inputs + i) k r 0 q ∙ b .is k (omega arith)
 
-  pub topping-ends : {tops : List ℕ} {i : ℕ} → Topping file shape tops i → shape .gates ≤ i → Tops file shape tops
-  topping-ends {tops} {i} b h =
+  -- all have theirs, and what is after them is zeroed
+  pub topping-ends : {tops : List ℕ} {i : ℕ} (room : ℕ) (zeroed : List ℕ) → Topping file shape tops i →
+      shape .gates ≤ i → length tops ≡ room →
+      zeroed
+      ≡ take (shape .inputs + shape .gates) tops ++ replicate (length tops - (shape .inputs + shape .gates)) 0 →
+      Topped file shape room zeroed
+  topping-ends {tops} {i} room zeroed b h long z =
       let n = shape .inputs + shape .gates in
       let e : length (take n tops) ≡ n = length-take-le n tops (b .long) in
+      let all : take (shape .inputs + shape .gates) tops ≡ topsOf net (atZero net) =
+      ext-getD 0 (take n tops) (topsOf net (atZero net))
+      (e ∙ sym (tops-length net (atZero net) zeros ∙ node-count file shape))
+      (λ k l.
+      let q : k < shape .inputs + shape .gates = omega arith in
+      getD-take n tops k 0 q ∙ b .is k (omega arith))
+      in
+      record { is = z ∙ ap₂ (λ (x : List ℕ) (y : ℕ). x ++ replicate (y - n) 0) all long }
+
+  -- which begins with the tops
+  pub topped-tops : {room : ℕ} {tops : List ℕ} → Topped file shape room tops → Tops file shape tops
+  topped-tops {room} w =
+      let n = shape .inputs + shape .gates in
       record {
         is =
-            ext-getD 0 (take n tops) (topsOf (circuitAt file shape))
-            (e ∙ sym (tops-length (circuitAt file shape) zeros ∙ node-count file shape))
-            (λ k l.
-            let q : k < shape .inputs + shape .gates = omega arith in
-            getD-take n tops k 0 q ∙ b .is k (omega arith));
+            ap (take n) (w .is)
+            ∙ take-at (topsOf net (atZero net)) (replicate (room - n) 0) n
+            (tops-length net (atZero net) zeros ∙ node-count file shape);
       }
 
   -- what is read at a node's number is its top, and small

@@ -12,6 +12,13 @@ use Rattle.pairs.specs.Pairs.{flatPairs, pairsFor}
 use Rattle.pairs.specs.Rising.{Before, Rising}
 use Rattle.pairs.specs.Table.{Precede}
 
+-- a lent slice of so many numbers is the tops of all nodes, and zeros in "whatever part wasn't needed"
+pub record Topped (file : List ℕ) (shape : Shape) (room : ℕ) (tops : List ℕ) : Type 0 where
+  pub is :
+      tops
+      ≡ topsOf (netlistAt file shape) (atZero (netlistAt file shape))
+      ++ replicate (room - (shape .inputs + shape .gates)) 0
+
 -- a lent slice begins with the tops of all nodes
 pub record Tops (file : List ℕ) (shape : Shape) (tops : List ℕ) : Type 0 where
   pub is : take (shape .inputs + shape .gates) tops ≡ topsOf (circuitAt file shape)

@@ -2,7 +2,8 @@
 -- where the pairs after it are known. Interface: none of it; it serves the functions under `table` and `place`.
 use mathlib.Core.Path.{_≡_}
 use mathlib.Core.List.{List, [], _∷_, List·Memᴰ}
-use Prim.Native.Nat.{ℕ, _+_, _-_, _*_, _≤_, _<_}
+use mathlib.Core.Logic.{_⊎_}
+use Prim.Native.Nat.{ℕ, suc, _+_, _*_, _/_, _%_, _^_, _≤_, _<_}
 use lib.ListN.{length, getD, drop}
 use Rattle.netlist.specs.declared.Shape.{Shape}
 use Rattle.netlist.specs.File.{firstAt, countAt, driverAt, delayAt, netlistAt}
@@ -46,28 +47,52 @@ pub record Precede (l : List (ℕ × ℕ)) (key r : ℕ) : Type 0 where
   pub before : (k : ℕ) → k < r → keyOf (pairAt l k) < key
   pub after : (k : ℕ) → r ≤ k → k < length l → key ≤ keyOf (pairAt l k)
 
--- the last p pairs do not stand before the key
-pub record Past (l : List (ℕ × ℕ)) (key p : ℕ) : Type 0 where
-  pub within : p ≤ length l
-  pub after : (k : ℕ) → length l - p ≤ k → k < length l → key ≤ keyOf (pairAt l k)
+-- ---- times marked in words of 64 bits
 
--- r is the largest number below a bound that has a property, or 0
-pub record Most (Has : ℕ → Type 0) (bound r : ℕ) : Type 0 where
-  pub found : 0 < r → Has r × (r < bound)
-  pub most : (t : ℕ) → Has t → t < bound → t ≤ r
+-- bit number k of a word
+abbrev pub bitAt : ℕ → ℕ → ℕ
+bitAt word k = word / 2 ^ k % 2
+
+-- time t is marked
+pub record Marked (marks : List ℕ) (t : ℕ) : Type 0 where
+  pub is : bitAt (getD marks (t / 64) 0) (t % 64) ≡ 1
+
+-- what was marked stays so, and with it is marked just what has a property
+pub record Adds (before : List ℕ) (Has : ℕ → Type 0) (after : List ℕ) : Type 0 where
+  pub old : (t : ℕ) → Marked before t → Marked after t
+  pub new : (t : ℕ) → Has t → Marked after t
+  pub only : (t : ℕ) → Marked after t → Marked before t ⊎ Has t
+
+-- the highest bit of a word is bit k
+pub record Highest (word k : ℕ) : Type 0 where
+  pub within : k < 64
+  pub least : 2 ^ k ≤ word
+  pub most : word < 2 ^ suc k
+
+-- r is the last word with a mark, of those up to one; the first where there is none
+pub record LastWord (marks : List ℕ) (from r : ℕ) : Type 0 where
+  pub within : r ≤ from
+  pub empty : (k : ℕ) → r < k → k ≤ from → getD marks k 0 ≡ 0
+  pub first : getD marks r 0 ≡ 0 → r ≡ 0
 
 -- ---- what asks for node f at t, where the pairs l are known
 
--- a pin of node n
-pub record PinAsks (l : List (ℕ × ℕ)) (n f driver delay t : ℕ) : Type 0 where
-  pub drives : driver ≡ f
+-- a property, from 1 to a top
+pub record Within (top : ℕ) (Has : ℕ → Type 0) (t : ℕ) : Type 0 where
+  pub some : 0 < t
+  pub few : t ≤ top
+  pub has : Has t
+
+-- a pin of node n with this delay
+pub record PinAsks (l : List (ℕ × ℕ)) (n delay t : ℕ) : Type 0 where
   pub has : List·Memᴰ (n, t + delay) l
 
 -- one of `count` pins of node n, from the file's pin `first` on
 pub record GateAsks (l : List (ℕ × ℕ)) (file : List ℕ) (shape : Shape) (first count n f t : ℕ) : Type 0 where
   pub pin : ℕ
   pub within : pin < count
-  pub asks : PinAsks l n f (driverAt file shape (first + pin)) (delayAt file shape (first + pin)) t
+  pub drives : driverAt file shape (first + pin) ≡ f
+  pub asks : PinAsks l n (delayAt file shape (first + pin)) t
 
 -- an output, at the target
 pub record OutputAsks (file : List ℕ) (shape : Shape) (target f t : ℕ) : Type 0 where
@@ -80,45 +105,6 @@ pub data Asks (l : List (ℕ × ℕ)) (file : List ℕ) (shape : Shape) (target 
   byGate : (j : ℕ) → j < i → f < shape .inputs + j →
       GateAsks l file shape (firstAt file shape j) (countAt file shape j) (shape .inputs + j) f t →
       Asks l file shape target i f t
-
--- ---- the readers of f: the pins that it drives, each as one number, the key of its gate's node at its delay
-
--- one of `count` pins of node n, from the file's pin `first` on
-pub record GateReads (file : List ℕ) (shape : Shape) (first count n f x : ℕ) : Type 0 where
-  pub pin : ℕ
-  pub within : pin < count
-  pub drives : driverAt file shape (first + pin) ≡ f
-  pub is : x ≡ keyOf (n, delayAt file shape (first + pin))
-
--- a pin of one of the first i gates
-pub record Reads (file : List ℕ) (shape : Shape) (i f x : ℕ) : Type 0 where
-  pub gate : ℕ
-  pub low : gate < i
-  pub above : f < shape .inputs + gate
-  pub own : GateReads file shape (firstAt file shape gate) (countAt file shape gate) (shape .inputs + gate) f x
-
--- the first n numbers of a list are just those that have a property
-pub record Gathers (Has : ℕ → Type 0) (l : List ℕ) (n : ℕ) : Type 0 where
-  pub each : (k : ℕ) → k < n → Has (getD l k 0)
-  pub all : (x : ℕ) → Has x → (k : ℕ) × (k < n) × (getD l k 0 ≡ x)
-
--- a reader asks for f at t: a pair's key is the reader and t
-pub record KeyAsks (l : List (ℕ × ℕ)) (reader t : ℕ) : Type 0 where
-  pub place : ℕ
-  pub within : place < length l
-  pub key : keyOf (pairAt l place) ≡ reader + t
-
--- what each of the first n readers has passed at b
-pub record AllPast (l : List (ℕ × ℕ)) (readers passed : List ℕ) (n b : ℕ) : Type 0 where
-  pub at : (k : ℕ) → k < n → Past l (getD readers k 0 + b) (getD passed k 0)
-
--- the readers of f are gathered, and each has passed no pair that stands before its key at b
-pub record Ready (l : List (ℕ × ℕ)) (file : List ℕ) (shape : Shape) (f b : ℕ) (readers passed : List ℕ) (n : ℕ) :
-    Type 0 where
-  pub room : n ≤ length readers
-  pub room-passed : n ≤ length passed
-  pub gathers : Gathers (Reads file shape (shape .gates) f) readers n
-  pub past : AllPast l readers passed n b
 
 -- the table's end holds the pairs l, or they are more than there is room for
 abbrev pub Kept : List (ℕ × ℕ) → ℕ → List ℕ → Filled → Type 0

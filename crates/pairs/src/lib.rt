@@ -5,7 +5,7 @@ ghost use mathlib.Core.Path.{_≡_};
 ghost use mathlib.Core.List.{List, _∷_, _++_};
 ghost use Prim.Native.Nat.{ℕ, _+_, _*_, _/_, _≤_, _<_, max, min};
 ghost use lib.ListN.{length, getD, take, drop};
-ghost use Rattle.netlist.specs.File.{cellAt};
+ghost use Rattle.netlist.specs.File.{cellAt, firstAt, countAt};
 ghost use Rattle.netlist.specs.Holds.{Holds};
 ghost use Rattle.settle.specs.Settling.{last, readyAt};
 ghost use Rattle.pairs.specs.Pairs.{placeOf};
@@ -16,18 +16,18 @@ ghost use Rattle.pairs.specs.Table.{
   Sorted,
   Searching,
   Precede,
-  Past,
-  AllPast,
-  Most,
-  KeyAsks,
-  Reads,
-  Gathers,
-  Ready,
+  Marked,
+  Adds,
+  Highest,
+  LastWord,
+  Within,
+  PinAsks,
+  GateAsks,
   OutputAsks,
   Asks,
   Kept,
 };
-ghost use Rattle.pairs.specs.Promise.{Tops, pairsAt, Held, Lists, Findable, Bounds, Begins};
+ghost use Rattle.pairs.specs.Promise.{Topped, Tops, pairsAt, Held, Lists, Findable, Bounds, Begins};
 
 // Where the pairs begin in a table that is filled from its end, or that they are more than it holds.
 enum Filled {
@@ -58,6 +58,14 @@ fn key_at(pairs: &[u32], k: usize) -> usize
     node * 4294967296 + time
 }
 
+// The time of a pair of the table.
+fn time_at(pairs: &[u32], k: usize) -> usize
+    requires { ⌜ k < length (now pairs) / 2 ⌝ }
+    ensures { λ r. ⌜ r ≡ pairAt (pairsIn (now (pairs .entry))) k .1 ⌝ }
+{
+    lent::widen(pairs[k * 2 + 1])
+}
+
 // When the last pin of a gate is ready, if each of its drivers settles at the driver's top.
 fn last_ready(file: &[u8], shape: Shape, number: usize, tops: &[u32]) -> usize
     requires { ⌜ Holds (now file) shape × (number < shape .gates) × (length (now tops) ≡ shape .inputs + number) ⌝ }
@@ -79,12 +87,13 @@ fn last_ready(file: &[u8], shape: Shape, number: usize, tops: &[u32]) -> usize
     latest
 }
 
-// The tops of all nodes, inputs first.
+// The tops of all nodes, inputs first, and zeros after them.
 pub fn tops(file: &[u8], shape: Shape, tops: &mut [u32])
     requires { ⌜ Holds (now file) shape × (shape .inputs + shape .gates ≤ length (now tops)) ⌝ }
-    ensures { λ _. ⌜ Tops (now (file .entry)) shape (now (tops .exit)) ⌝ }
+    ensures { λ _. ⌜ Topped (now (file .entry)) shape (length (now (tops .entry))) (now (tops .exit)) ⌝ }
 {
-    lent::zero_u32(tops);
+    lent::zero_u32(&mut tops[..shape.inputs]);
+    let nodes = shape.inputs + shape.gates;
     let mut i = 0;
     while i < shape.gates {
         let node = shape.inputs + i;
@@ -92,6 +101,7 @@ pub fn tops(file: &[u8], shape: Shape, tops: &mut [u32])
         tops[node] = top as u32;
         i += 1;
     }
+    lent::zero_rest_u32(tops, nodes);
 }
 
 // How many pairs stand before a key, by halves: from `least` to `most` of them.
@@ -125,85 +135,72 @@ pub fn starts(table: &[u32], count: usize, nodes: usize, starts: &mut [usize])
     }
 }
 
-// The place of a pair among the first `count` pairs of a table, by where its node's pairs begin and end.
+// The place of a pair among the first `count` pairs of a table: where it stands if its node's times follow one on the
+// other from the first, or else by halves.
 pub fn place(table: &[u32], count: usize, starts: &[usize], node: usize, time: usize) -> usize
     requires { ⌜ Findable (now table) count node time
         × Bounds (pairsIn (take (count * 2) (now table))) (now starts) node ⌝ }
     ensures { λ r. ⌜ ((pairs : List (ℕ × ℕ)) → Lists (now (table .entry)) count pairs → r ≡ placeOf node time pairs) ⌝ }
 {
+    let pairs = &table[..count * 2];
     let low = starts[node];
     let high = starts[node + 1];
-    pairs_before(&table[..count * 2], node * 4294967296 + time, low, high)
-}
-
-// How many pairs stand before a key, where the last `passed` are known not to: back from there, one by one.
-fn walk_back(pairs: &[u32], key: usize, passed: usize) -> usize
-    requires { ⌜ Sorted (pairsIn (now pairs)) × Past (pairsIn (now pairs)) key passed ⌝ }
-    ensures { λ r. ⌜ Precede (pairsIn (now (pairs .entry))) key r ⌝ }
-{
-    let mut r = pairs.len() / 2 - passed;
-    while 0 < r {
-        if key_at(pairs, r - 1) < key {
-            break;
+    let near = low + (time - time_at(pairs, low));
+    if near < high {
+        if time_at(pairs, near) == time {
+            return near;
         }
-        r -= 1;
     }
-    r
+    pairs_before(pairs, node * 4294967296 + time, low, high)
 }
 
-// The largest time below b at which a reader asks, or 0; `before` pairs stand before the reader's key at b.
-fn reader_asks(done: &[u32], reader: usize, b: usize, before: usize) -> usize
-    requires { ⌜ Sorted (pairsIn (now done)) × Precede (pairsIn (now done)) (reader + b) before ⌝ }
-    ensures { λ r. ⌜ Most (KeyAsks (pairsIn (now (done .entry))) reader) b r ⌝ }
+// Mark a time.
+fn mark(marks: &mut [usize], time: usize)
+    requires { ⌜ time / 64 < length (now marks) ⌝ }
+    ensures { λ _. ⌜ Adds (now (marks .entry)) (λ t. t ≡ time) (now (marks .exit)) ⌝ }
 {
-    if before == 0 {
-        return 0;
-    }
-    let last = key_at(done, before - 1);
-    if last <= reader {
-        return 0;
-    }
-    last - reader
+    let word = time / 64;
+    marks[word] = marks[word] | (1usize << (time % 64));
 }
 
-// The target, where it is below b and f is an output, or 0.
-fn output_asks(file: &[u8], shape: Shape, target: usize, f: usize, b: usize) -> usize
-    requires { ⌜ Holds (now file) shape ⌝ }
-    ensures { λ r. ⌜ Most (OutputAsks (now (file .entry)) shape target f) b r ⌝ }
+// Mark what a pin of this node with this delay asks for, from 1 to the top: the node's pairs from the one after the
+// delay to the one at the top and the delay.
+fn mark_pin(done: &[u32], node: usize, delay: usize, top: usize, marks: &mut [usize])
+    requires { ⌜ Sorted (pairsIn (now done)) × (node < 65536) × (delay < 1000) × (top < 1000000)
+        × (top / 64 < length (now marks)) ⌝ }
+    ensures { λ _. ⌜ Adds (now (marks .entry)) (Within top (PinAsks (pairsIn (now (done .entry))) node delay))
+        (now (marks .exit)) ⌝ }
 {
-    if b <= target {
-        return 0;
+    let key = node * 4294967296 + delay;
+    let mut k = pairs_before(done, key + 1, 0, done.len() / 2);
+    let end = pairs_before(done, key + top + 1, k, done.len() / 2);
+    while k < end {
+        mark(marks, time_at(done, k) - delay);
+        k += 1;
     }
-    let mut i = 0;
-    while i < shape.outputs {
-        if netlist::output_at(file, shape, i) == f {
-            return target;
-        }
-        i += 1;
-    }
-    0
 }
 
-// The pins of a gate that f drives, as readers after the first `from`, which are those of the gates before it.
-fn gate_readers(
+// Mark what the pins of a gate that f drives ask for, from 1 to the top.
+fn mark_gate(
+    done: &[u32],
     file: &[u8],
     shape: Shape,
     number: usize,
     f: usize,
-    readers: &mut [usize],
-    from: usize,
-) -> usize
-    requires { ⌜ Holds (now file) shape × (number < shape .gates) × (f < shape .inputs + number)
-        × Gathers (Reads (now file) shape number f) (now readers) from × (from ≤ number * 8)
-        × (3584 ≤ length (now readers)) ⌝ }
-    ensures { λ r. ⌜ Gathers (Reads (now (file .entry)) shape (number + 1) f) (now (readers .exit)) r
-        × (r ≤ number * 8 + 8) ⌝ }
+    top: usize,
+    marks: &mut [usize],
+)
+    requires { ⌜ Sorted (pairsIn (now done)) × Holds (now file) shape × (number < shape .gates) × (top < 1000000)
+        × (top / 64 < length (now marks)) ⌝ }
+    ensures { λ _. ⌜ Adds (now (marks .entry))
+        (Within top (GateAsks (pairsIn (now (done .entry))) (now (file .entry)) shape
+        (firstAt (now (file .entry)) shape number) (countAt (now (file .entry)) shape number) (shape .inputs + number)
+        f)) (now (marks .exit)) ⌝ }
 {
     let gate = netlist::gate_at(file, shape, number);
     let first = gate.first;
     let count = gate.count;
     let node = shape.inputs + number;
-    let mut n = from;
     let mut k = 0;
     while k < count {
         let pin = first + k;
@@ -212,70 +209,77 @@ fn gate_readers(
             continue;
         }
         let delay = netlist::delay_at(file, shape, pin);
-        readers[n] = node * 4294967296 + delay;
-        n += 1;
+        mark_pin(done, node, delay, top, marks);
     }
-    n
 }
 
-// The readers of f: the pins that it drives, each as the key of its gate's node at its delay.
-fn gather(file: &[u8], shape: Shape, f: usize, readers: &mut [usize]) -> usize
-    requires { ⌜ Holds (now file) shape × (shape .inputs ≤ f) × (f < shape .inputs + shape .gates)
-        × (3584 ≤ length (now readers)) ⌝ }
-    ensures { λ r. ⌜ Gathers (Reads (now (file .entry)) shape (shape .gates) f) (now (readers .exit)) r
-        × (r ≤ 3584) ⌝ }
+// Mark the target, where f is an output and the target is 1 to the top.
+fn mark_output(file: &[u8], shape: Shape, target: usize, f: usize, top: usize, marks: &mut [usize])
+    requires { ⌜ Holds (now file) shape × (top / 64 < length (now marks)) ⌝ }
+    ensures { λ _. ⌜ Adds (now (marks .entry)) (Within top (OutputAsks (now (file .entry)) shape target f))
+        (now (marks .exit)) ⌝ }
 {
-    let mut n = 0;
-    let mut i = f + 1 - shape.inputs;
-    while i < shape.gates {
-        n = gate_readers(file, shape, i, f, readers, n);
+    if target == 0 {
+        return;
+    }
+    if top < target {
+        return;
+    }
+    let mut i = 0;
+    while i < shape.outputs {
+        if netlist::output_at(file, shape, i) == f {
+            mark(marks, target);
+            return;
+        }
         i += 1;
     }
-    n
 }
 
-// For each reader, how many pairs at the table's end are not before its key at b.
-fn pass(done: &[u32], b: usize, readers: &[usize], count: usize, passed: &mut [usize])
-    requires { ⌜ Sorted (pairsIn (now done)) × (b < 1000000) × (count ≤ length (now readers))
-        × (count ≤ length (now passed)) × ((k : ℕ) → k < count → getD (now readers) k 0 < 10000000000000) ⌝ }
-    ensures { λ _. ⌜ AllPast (pairsIn (now (done .entry))) (now (readers .entry)) (now (passed .exit)) count b ⌝ }
-{
-    let mut k = 0;
-    while k < count {
-        let before = pairs_before(done, readers[k] + b, 0, done.len() / 2);
-        passed[k] = done.len() / 2 - before;
-        k += 1;
-    }
-}
-
-// The largest time below b at which f is asked for, by the outputs or by a pair of the table, or 0.
-fn asks(
+// Mark what is asked of f, from 1 to its top: by the outputs, and by the gates above it.
+fn mark_asked(
     done: &[u32],
     file: &[u8],
     shape: Shape,
     target: usize,
     f: usize,
-    b: usize,
-    readers: &[usize],
-    count: usize,
-    passed: &mut [usize],
-) -> usize
-    requires { ⌜ Sorted (pairsIn (now done)) × Holds (now file) shape × (b < 1000000)
-        × Ready (pairsIn (now done)) (now file) shape f b (now readers) (now passed) count ⌝ }
-    ensures { λ r. ⌜ Most (Asks (pairsIn (now (done .entry))) (now (file .entry)) shape target (shape .gates) f) b r
-        × Ready (pairsIn (now (done .entry))) (now (file .entry)) shape f b (now (readers .entry)) (now (passed .exit))
-        count ⌝ }
+    top: usize,
+    marks: &mut [usize],
+)
+    requires { ⌜ Sorted (pairsIn (now done)) × Holds (now file) shape × (shape .inputs ≤ f)
+        × (f < shape .inputs + shape .gates) × (top < 1000000) × (top / 64 < length (now marks)) ⌝ }
+    ensures { λ _. ⌜ Adds (now (marks .entry))
+        (Within top (Asks (pairsIn (now (done .entry))) (now (file .entry)) shape target (shape .gates) f))
+        (now (marks .exit)) ⌝ }
 {
-    let mut best = output_asks(file, shape, target, f, b);
-    let mut k = 0;
-    while k < count {
-        let reader = readers[k];
-        let before = walk_back(done, reader + b, passed[k]);
-        passed[k] = done.len() / 2 - before;
-        best = larger(best, reader_asks(done, reader, b, before));
-        k += 1;
+    mark_output(file, shape, target, f, top, marks);
+    let mut i = f + 1 - shape.inputs;
+    while i < shape.gates {
+        mark_gate(done, file, shape, i, f, top, marks);
+        i += 1;
     }
-    best
+}
+
+// The place of a word's highest bit.
+fn highest(word: usize) -> usize
+    requires { ⌜ 0 < word ⌝ }
+    ensures { λ r. ⌜ Highest word r ⌝ }
+{
+    63 - usize::leading_zeros(word) as usize
+}
+
+// The last word with a mark, of those up to one; the first where there is none.
+fn last_word(marks: &[usize], from: usize) -> usize
+    requires { ⌜ from < length (now marks) ⌝ }
+    ensures { λ r. ⌜ LastWord (now (marks .entry)) from r ⌝ }
+{
+    let mut word = from;
+    while 0 < word {
+        if marks[word] != 0 {
+            break;
+        }
+        word -= 1;
+    }
+    word
 }
 
 // A pair into the table.
@@ -288,56 +292,51 @@ fn put_pair(table: &mut [u32], k: usize, node: usize, time: usize)
     table[k * 2 + 1] = time as u32;
 }
 
-// Fill the table from its end: the pairs from (f, b) on stand from `at` on. The next is (f, t) with the largest t below
-// b that is asked for; where there is none, the node below f follows, with all its times up to its top. The readers of
-// f are gathered once, and since b only falls, what each has passed it need not look at again.
+// Fill the table from its end: what stands from `at` on are the pairs found, and what is still to be found of node f is
+// marked, as `bits` in this word and in the words before it. The next pair is f at the highest bit; where no mark is
+// left, the node below f follows.
 fn fill(
     file: &[u8],
     shape: Shape,
     target: usize,
     tops: &[u32],
     table: &mut [u32],
-    readers: &mut [usize],
-    passed: &mut [usize],
+    marks: &mut [usize],
 ) -> Filled
     requires { ⌜ Holds (now file) shape × Tops (now file) shape (now tops)
-        × (length (now table) / 2 * 2 ≡ length (now table)) × (3584 ≤ length (now readers))
-        × (3584 ≤ length (now passed)) ⌝ }
+        × (length (now table) / 2 * 2 ≡ length (now table)) × ((t : ℕ) → Marked (now marks) t → ⊥)
+        × (6994 < length (now marks)) ⌝ }
     ensures { λ r. ⌜ Kept (pairsAt (now (file .entry)) shape target) (length (now (table .entry)) / 2)
         (now (table .exit)) r ⌝ }
 {
     let mut at = table.len() / 2;
     let mut f = shape.inputs + shape.gates;
-    let mut b = 0;
-    let mut count = 0;
+    let mut word = 0;
+    let mut bits = 0;
     loop {
-        let t = asks(
-            &table[at * 2..],
-            file,
-            shape,
-            target,
-            f,
-            b,
-            readers,
-            count,
-            passed,
-        );
-        if t == 0 {
+        if bits == 0 {
+            if 0 < word {
+                word = last_word(marks, word - 1);
+                bits = marks[word];
+                marks[word] = 0;
+                continue;
+            }
             if f <= shape.inputs {
                 break;
             }
             f -= 1;
-            b = lent::widen(tops[f]) + 1;
-            count = gather(file, shape, f, readers);
-            pass(&table[at * 2..], b, readers, count, passed);
+            let top = lent::widen(tops[f]);
+            mark_asked(&table[at * 2..], file, shape, target, f, top, marks);
+            word = top / 64 + 1;
             continue;
         }
+        let bit = highest(bits);
         if at == 0 {
             return Filled::Full;
         }
+        bits -= 1usize << bit;
         at -= 1;
-        put_pair(table, at, f, t);
-        b = t;
+        put_pair(table, at, f, word * 64 + bit);
     }
     Filled::From(at)
 }
@@ -371,16 +370,14 @@ pub fn table(file: &[u8], shape: Shape, target: usize, tops: &[u32], table: &mut
         (now (table .exit)) r ⌝ }
 {
     let room = holds(table.len());
-    let mut readers = [0usize; 3584];
-    let mut passed = [0usize; 3584];
+    let mut marks = [0usize; 6995];
     let got = fill(
         file,
         shape,
         target,
         tops,
         &mut table[..room * 2],
-        &mut readers,
-        &mut passed,
+        &mut marks,
     );
     match got {
         Filled::From(at) => {

@@ -3,6 +3,7 @@
 use lib.ListN.{length}
 use Rattle.netlist.specs.File.{circuitAt}
 use mathlib.Core.Path.{refl}
+use Rattle.pairs.proofs.Topping.{topped-tops}
 use Rattle.formula.proofs.Rows.{held-length, held-again, meets-as, listed-none}
 use borrow.Author.Needs.{needs}
 use Rattle.formula.proofs.build_from.Statement.{statement}
@@ -21,7 +22,10 @@ slice-aggregate-table : tie.Need-slice-aggregate-table
 slice-aggregate-table c = search needs
 
 table-requires : tie.Need-table-requires
-table-requires c κs = search needs
+table-requires c κs =
+    let tops2 = c .before .before .before .before .tops2 in
+    let pre = c .before .before .before .before .before .before .before .before .pre in
+    (pre, topped-tops pre (tops2 .ensures))
 
 enum-known-listed : tie.Need-enum-known-listed
 enum-known-listed c = search needs
@@ -37,7 +41,7 @@ write-requires c κs =
     .before .tops2 in
     let pre = c .before .before .before .before .before .before .before .before .before .before .before .before .before
     .before .before .before .before .pre in
-    (pre, tops2 .ensures, held-again _ _ _ _ _ (table .ensures) (listed .given .1))
+    (pre, topped-tops pre (tops2 .ensures), held-again _ _ _ _ _ (table .ensures) (listed .given .1))
 
 same-length : tie.Need-same-length
 same-length c = search needs

@@ -1,69 +1,106 @@
--- `pairs::fill` meets its contract: the table's end holds the pairs from (f, b) on, the readers of f are ready at b,
--- and the key of (f, b) falls at each turn. Assumes nothing.
-use mathlib.Core.Path.{_≡_, refl}
-use Prim.Native.Nat.{_+_, _*_}
+-- `pairs::fill` meets its contract: what is found and what is marked are all that is asked for, and at each turn a bit, a
+-- word or a node is done. Assumes nothing.
+use mathlib.Core.Path.{_≡_, refl, ap}
+use Prim.Native.Nat.{ℕ, _+_, _-_, _*_, _%_, _^_, _≤_}
 use native.Mathlib.Omega.{arith}
 use borrow.Author.Needs.{needs}
-use lib.ListN.{length}
-use Rattle.pairs.specs.Table.{Ready}
-use Rattle.pairs.proofs.Reading.{reads-small, ready-starts}
+use lib.ListN.{length, length-set}
+use lib.Pow.{pow-pos}
+use Rattle.pairs.proofs.Bits.{one-shifted}
 use Rattle.pairs.proofs.Topping.{tops-long}
-use Rattle.pairs.proofs.Filling.{
-  foundIn,
-  Filling,
-  filling-starts,
-  filling-bound,
-  filling-top,
-  filling-sorted,
-  filling-down,
-  filling-more,
-  filling-ready,
-  filling-full,
-  filling-ends,
+use Rattle.pairs.proofs.Filling.{filling-sorted, filling-top}
+use Rattle.pairs.proofs.Finding.{
+  Finding,
+  word-less,
+  finding-starts,
+  finding-next,
+  finding-down,
+  finding-ends,
+  finding-time,
+  finding-more,
+  finding-full,
 }
 use Rattle.pairs.proofs.fill.Statement.{statement}
 use Rattle.pairs.proofs.fill.Tie as tie
 
 abbrev Inv-loop : tie.InvT-loop
-Inv-loop file shape target tops table₀ readers₀ passed₀ at₀ f₀ b₀ count₀ table readers passed at f b count =
-    Filling file shape target table₀ table at f b × (length readers ≡ length readers₀)
-    × (length passed ≡ length passed₀) × Ready (foundIn table at) file shape f b readers passed count
+Inv-loop file shape target tops table₀ marks₀ at₀ f₀ word₀ bits₀ table marks at f word bits =
+    Finding file shape target table₀ table at f marks word bits × (length marks ≡ length marks₀)
 
 abbrev μ-loop : tie.MeasureT-loop
-μ-loop file shape target tops table₀ readers₀ passed₀ at₀ f₀ b₀ count₀ table readers passed at f b count =
-    f * 4294967296 + b
+μ-loop file shape target tops table₀ marks₀ at₀ f₀ word₀ bits₀ table marks at f word bits =
+    (f * 10000 + word) * 18446744073709551616 + bits
+
+-- the places: the start, and the top of the node below
+abbrev start : tie.At-loop Inv-loop μ-loop → tie.Start Inv-loop μ-loop
+start c = c .before .before .before .before .before .before
+
+lower-top : (c : tie.After-widen Inv-loop μ-loop) → c .widen .result ≤ 447552
+lower-top c =
+    let lower = c .before .before in
+    let turn = lower .before .before .before .before in
+    filling-top (start turn .pre .0) _ (turn .loop .inv .0 .filling) (lower .if3 .left) (start turn .pre .1) _
+    (c .widen .ensures .0)
+
+-- the time of the highest bit, and the bit as it is shifted
+time : (c : tie.After-highest Inv-loop μ-loop) →
+    c .before .before .loop .word * 64 + c .highest .result ≤ 447552
+time c =
+    let turn = c .before .before in
+    finding-time (start turn .pre .0) _ (turn .loop .inv .0) (c .highest .ensures)
+
+bit-power : (c : tie.After-highest Inv-loop μ-loop) →
+    (1 * 2 ^ c .highest .result) % 18446744073709551616 ≡ 2 ^ c .highest .result
+bit-power c = one-shifted (c .highest .result) (c .highest .ensures .within)
 
 add-f : tie.Need-add-f Inv-loop μ-loop
 add-f c = omega arith
 
 loop-holds : tie.Need-loop-holds Inv-loop μ-loop
 loop-holds c =
-    let start = c .before .before .before .before .before .before in
-    (filling-starts (start .pre .0) _ _ (start .pre .2), refl, refl, ready-starts _ refl)
+    let given = c .before .before .before .before .before .pre in
+    (finding-starts (given .0) _ _ _ (given .2) (given .3) (omega (arith, given .4)), refl)
 
-mul-asks : tie.Need-mul-asks Inv-loop μ-loop
-mul-asks c = omega arith
+sub-last-word : tie.Need-sub-last-word Inv-loop μ-loop
+sub-last-word c = omega arith
 
-mul-asks-2 : tie.Need-mul-asks-2 Inv-loop μ-loop
-mul-asks-2 c = omega arith
+last-word-requires : tie.Need-last-word-requires Inv-loop μ-loop
+last-word-requires c κs = omega (arith, c .before .before .before .loop .inv .0 .scanning .room)
 
-sub-asks : tie.Need-sub-asks Inv-loop μ-loop
-sub-asks c = omega arith
-
-part-asks-start : tie.Need-part-asks-start Inv-loop μ-loop
-part-asks-start c = search needs
-
-part-asks-end : tie.Need-part-asks-end Inv-loop μ-loop
-part-asks-end c = search needs
-
-asks-requires : tie.Need-asks-requires Inv-loop μ-loop
-asks-requires c κs =
+mul-bits : tie.Need-mul-bits Inv-loop μ-loop
+mul-bits c =
     let turn = c .before .before .before .before in
-    let start = turn .before .before .before .before .before .before .before in (
-      filling-sorted (start .pre .0) _ (turn .loop .inv .0),
-      start .pre .0,
-      omega (arith, filling-bound (start .pre .0) _ (turn .loop .inv .0)),
-      turn .loop .inv .3,
+    omega (arith, c .last-word .ensures .within, turn .loop .inv .0 .scanning .room)
+
+slice-read-bits : tie.Need-slice-read-bits Inv-loop μ-loop
+slice-read-bits c =
+    let turn = c .before .before .before .before .before in
+    omega (arith, c .before .last-word .ensures .within, turn .loop .inv .0 .scanning .room)
+
+mul-marks : tie.Need-mul-marks Inv-loop μ-loop
+mul-marks c =
+    let turn = c .before .before .before .before .before in
+    omega (arith, c .before .last-word .ensures .within, turn .loop .inv .0 .scanning .room)
+
+slice-write-marks : tie.Need-slice-write-marks Inv-loop μ-loop
+slice-write-marks c =
+    let turn = c .before .before .before .before .before in
+    omega (arith, c .before .last-word .ensures .within, turn .loop .inv .0 .scanning .room)
+
+loop-less : tie.Need-loop-less Inv-loop μ-loop
+loop-less c =
+    let turn = c .before .before .before .before .before in
+    let word = c .before .last-word in
+    word-less (turn .loop .f * 10000) (word .result) (turn .loop .word) _ _
+    (omega (arith, word .ensures .within, c .before .before .before .if2 .taken))
+    (c .slice-known3 .given (word .result) .fits)
+
+loop-again : tie.Need-loop-again Inv-loop μ-loop
+loop-again c =
+    let turn = c .before .before .before .before .before in (
+      finding-next (start turn .pre .0) _ (turn .loop .inv .0) (c .before .before .before .before .if1 .taken) _
+          (c .before .before .before .if2 .taken) (c .before .last-word .ensures) refl,
+      simp length-set (turn .loop .inv .1),
     )
 
 sub-f : tie.Need-sub-f Inv-loop μ-loop
@@ -74,173 +111,128 @@ mul-widen c = omega arith
 
 shared-slice-read-widen : tie.Need-shared-slice-read-widen Inv-loop μ-loop
 shared-slice-read-widen c =
-    let turn = c .before .before .before .before .before .before .before .before .before .before .before in
-    let start = turn .before .before .before .before .before .before .before in
-    omega (arith, tops-long (start .pre .0) (start .pre .1), turn .loop .inv .0 .nodes)
+    let turn = c .before .before .before .before .before in
+    omega (arith, tops-long (start turn .pre .0) (start turn .pre .1), turn .loop .inv .0 .filling .nodes)
 
 widen-requires : tie.Need-widen-requires Inv-loop μ-loop
 widen-requires c κs = tt
 
-add-b : tie.Need-add-b Inv-loop μ-loop
-add-b c = omega arith
+mul-mark-asked : tie.Need-mul-mark-asked Inv-loop μ-loop
+mul-mark-asked c = omega arith
 
-gather-requires : tie.Need-gather-requires Inv-loop μ-loop
-gather-requires c κs =
-    let lower = c .before .before .before in
-    let turn = lower .before .before .before .before .before .before .before .before .before .before in
-    let start = turn .before .before .before .before .before .before .before in
-    let low = lower .if2 .left in
-    (start .pre .0, omega arith, omega (arith, turn .loop .inv .0 .nodes), omega (arith, turn .loop .inv .1))
+mul-mark-asked-2 : tie.Need-mul-mark-asked-2 Inv-loop μ-loop
+mul-mark-asked-2 c = omega arith
 
-mul-pass : tie.Need-mul-pass Inv-loop μ-loop
-mul-pass c =
-    let lower = c .before .before .before .before .before .before in
-    let turn = lower .before .before .before .before .before .before .before .before .before .before in
-    let start = turn .before .before .before .before .before .before .before in
-    let good = start .good .1 .1 .1 .1 .0 in
-    omega (arith, turn .loop .inv .0 .len, turn .loop .inv .0 .room)
+sub-mark-asked : tie.Need-sub-mark-asked Inv-loop μ-loop
+sub-mark-asked c =
+    let filling = c .before .before .before .before .before .before .loop .inv .0 .filling in
+    omega (arith, filling .len, filling .room)
 
-mul-pass-2 : tie.Need-mul-pass-2 Inv-loop μ-loop
-mul-pass-2 c =
-    let lower = c .before .before .before .before .before .before in
-    let turn = lower .before .before .before .before .before .before .before .before .before .before in
-    let start = turn .before .before .before .before .before .before .before in
-    let good = start .good .1 .1 .1 .1 .0 in
-    omega (arith, turn .loop .inv .0 .len, turn .loop .inv .0 .room)
+part-mark-asked-start : tie.Need-part-mark-asked-start Inv-loop μ-loop
+part-mark-asked-start c = search needs
 
-sub-pass : tie.Need-sub-pass Inv-loop μ-loop
-sub-pass c = omega arith
+part-mark-asked-end : tie.Need-part-mark-asked-end Inv-loop μ-loop
+part-mark-asked-end c = search needs
 
-part-pass-start : tie.Need-part-pass-start Inv-loop μ-loop
-part-pass-start c = search needs
-
-part-pass-end : tie.Need-part-pass-end Inv-loop μ-loop
-part-pass-end c = search needs
-
-pass-requires : tie.Need-pass-requires Inv-loop μ-loop
-pass-requires c κs =
-    let gathered = c .before .before .before .before .before .before in
-    let widened = gathered .before .before in
-    let lower = widened .before .before in
-    let asked = lower .before .before .before .before .before in
-    let turn = asked .before .before .before .before .before in
-    let start = turn .before .before .before .before .before .before .before in
-    let low = lower .if2 .left in
-    let top = widened .widen .ensures .0 in
-    let few = gathered .gather .ensures .1 in (
-      filling-sorted (start .pre .0) _ (turn .loop .inv .0),
-      omega (arith, filling-top (start .pre .0) _ (turn .loop .inv .0) low (start .pre .1) _ top),
-      omega (arith, gathered .gather .kept .1 .1 .1 .0, turn .loop .inv .1),
-      omega (arith, asked .asks .kept .1 .1 .1 .1 .1 .1 .1 .1 .0, turn .loop .inv .2),
-      λ k h. reads-small (start .pre .0) (gathered .gather .ensures .0 .each k h),
+mark-asked-requires : tie.Need-mark-asked-requires Inv-loop μ-loop
+mark-asked-requires c κs =
+    let widened = c .before .before .before in
+    let turn = widened .before .before .before .before .before .before in
+    let given = start turn .pre in
+    let top = lower-top widened in (
+      filling-sorted (given .0) _ (turn .loop .inv .0 .filling),
+      given .0,
+      omega (arith, widened .before .before .if3 .left),
+      omega (arith, turn .loop .inv .0 .filling .nodes),
+      omega arith,
+      omega (arith, given .4, turn .loop .inv .1),
     )
 
-loop-less : tie.Need-loop-less Inv-loop μ-loop
-loop-less c =
-    let widened = c .before .before .before .before .before .before .before .before .before .before .before in
-    let lower = widened .before .before in
-    let turn = lower .before .before .before .before .before .before .before .before .before .before in
-    let start = turn .before .before .before .before .before .before .before in
-    let low = lower .if2 .left in
-    omega (arith, filling-top (start .pre .0) _ (turn .loop .inv .0) low (start .pre .1) _ (widened .widen .ensures .0))
+add-word : tie.Need-add-word Inv-loop μ-loop
+add-word c = omega arith
 
-loop-again : tie.Need-loop-again Inv-loop μ-loop
-loop-again c =
-    let passes = c .before .before in
-    let gathered = passes .before .before .before .before .before .before .before in
-    let widened = gathered .before .before in
+loop-less-2 : tie.Need-loop-less-2 Inv-loop μ-loop
+loop-less-2 c = omega (arith, lower-top (c .before .before .before .before .before .before))
+
+loop-again-2 : tie.Need-loop-again-2 Inv-loop μ-loop
+loop-again-2 c =
+    let widened = c .before .before .before .before .before .before in
     let lower = widened .before .before in
-    let none = lower .before .before in
-    let asked = none .before .before .before in
-    let turn = asked .before .before .before .before .before in
-    let start = turn .before .before .before .before .before .before .before in
-    let few = gathered .gather .ensures .1 in
-    let same-readers = gathered .gather .kept .1 .1 .1 .0 in
-    let same-asked = asked .asks .kept .1 .1 .1 .1 .1 .1 .1 .1 .0 in
-    let same-passed = passes .pass .kept .1 .1 .1 .1 .0 in (
-      filling-down (start .pre .0) _ (turn .loop .inv .0) _ (asked .asks .ensures .0) (none .if1 .taken)
-          (lower .if2 .left) (start .pre .1) _ _ (widened .widen .ensures .0) (omega arith),
+    let turn = lower .before .before .before .before in
+    let given = start turn .pre in
+    let top = lower-top widened in
+    let same = c .before .before .mark-asked .kept .1 .1 .1 .1 .1 .1 .0 in (
+      finding-down (given .0) _ (turn .loop .inv .0) (lower .before .before .before .if1 .taken) (omega arith) _
+          (lower .if3 .left) (given .1) (widened .widen .ensures .0) (c .before .before .mark-asked .ensures)
+          (omega (arith, given .4, turn .loop .inv .1)),
       omega (arith, turn .loop .inv .1),
-      omega (arith, turn .loop .inv .2),
-      record {
-        room = omega (arith, turn .loop .inv .1);
-        room-passed = omega (arith, turn .loop .inv .2);
-        gathers = gathered .gather .ensures .0;
-        past = passes .pass .ensures;
-      },
     )
 
 same-length : tie.Need-same-length Inv-loop μ-loop
-same-length c = c .before .before .before .before .before .before .before .before .before .loop .inv .0 .len
+same-length c = c .before .before .before .loop .inv .0 .filling .len
 
 same-length-2 : tie.Need-same-length-2 Inv-loop μ-loop
-same-length-2 c = c .before .before .before .before .before .before .before .before .before .loop .inv .1
-
-same-length-3 : tie.Need-same-length-3 Inv-loop μ-loop
-same-length-3 c =
-    let asked = c .before .before .before .before in
-    let turn = asked .before .before .before .before .before in
-    omega (arith, asked .asks .kept .1 .1 .1 .1 .1 .1 .1 .1 .0, turn .loop .inv .2)
+same-length-2 c = c .before .before .before .loop .inv .1
 
 returns : tie.Need-returns Inv-loop μ-loop
 returns c =
-    let asked = c .before .before .before .before in
-    let turn = asked .before .before .before .before .before in
-    let start = turn .before .before .before .before .before .before .before in
-    filling-full (start .pre .0) _ (turn .loop .inv .0) _ (asked .asks .ensures .0) (omega arith) (omega arith)
+    let turn = c .before .before .before in
+    finding-full (start turn .pre .0) _ (turn .loop .inv .0) (c .before .highest .ensures) (c .if4 .taken)
+
+highest-requires : tie.Need-highest-requires Inv-loop μ-loop
+highest-requires c κs = omega arith
+
+shl-bits : tie.Need-shl-bits Inv-loop μ-loop
+shl-bits c = c .before .highest .ensures .within
+
+sub-bits : tie.Need-sub-bits Inv-loop μ-loop
+sub-bits c = omega (arith, bit-power (c .before), c .before .highest .ensures .least)
 
 sub-at : tie.Need-sub-at Inv-loop μ-loop
 sub-at c = omega arith
 
+mul-put-pair : tie.Need-mul-put-pair Inv-loop μ-loop
+mul-put-pair c = omega (arith, time (c .before .before))
+
+add-put-pair : tie.Need-add-put-pair Inv-loop μ-loop
+add-put-pair c = omega (arith, time (c .before .before))
+
 put-pair-requires : tie.Need-put-pair-requires Inv-loop μ-loop
 put-pair-requires c κs =
-    let asked = c .before .before .before .before .before in
-    let turn = asked .before .before .before .before .before in
-    let start = turn .before .before .before .before .before .before .before in (
-      omega (arith, turn .loop .inv .0 .len, turn .loop .inv .0 .room),
-      omega (arith, turn .loop .inv .0 .nodes, start .pre .0 .inputs-few, start .pre .0 .gates-few),
-      omega (arith, asked .asks .ensures .0 .found (omega arith), filling-bound (start .pre .0) _ (turn .loop .inv .0)),
+    let turn = c .before .before .before .before in
+    let filling = turn .loop .inv .0 .filling in
+    let holds = start turn .pre .0 in (
+      omega (arith, filling .len, filling .room),
+      omega (arith, filling .nodes, holds .inputs-few, holds .gates-few),
+      omega (arith, time (c .before .before)),
     )
 
-loop-less-2 : tie.Need-loop-less-2 Inv-loop μ-loop
-loop-less-2 c =
-    let asked = c .before .before .before .before .before .before .before .before in
-    omega (arith, asked .asks .ensures .0 .found (omega arith))
+loop-less-3 : tie.Need-loop-less-3 Inv-loop μ-loop
+loop-less-3 c =
+    let highest = c .before .before .before .before .before in
+    omega (arith, bit-power highest, highest .highest .ensures .least, pow-pos (highest .highest .result))
 
-loop-again-2 : tie.Need-loop-again-2 Inv-loop μ-loop
-loop-again-2 c =
-    let stored = c .before .before in
-    let asked = stored .before .before .before .before .before .before in
-    let turn = asked .before .before .before .before .before in
-    let start = turn .before .before .before .before .before .before .before in
-    let most = asked .asks .ensures .0 in
-    let put = stored .put-pair .ensures in (
-      filling-more (start .pre .0) _ (turn .loop .inv .0) _ most (omega arith) _ (omega arith) (put .0) (put .1),
+loop-again-3 : tie.Need-loop-again-3 Inv-loop μ-loop
+loop-again-3 c =
+    let high = c .before .before .before .before .before in
+    let turn = high .before .before in (
+      finding-more (start turn .pre .0) _ (turn .loop .inv .0) (high .highest .ensures) _ _ (omega arith)
+          (c .before .before .put-pair .ensures .0) (c .before .before .put-pair .ensures .1)
+          (ap (λ (x : ℕ). turn .loop .bits - x) (bit-power high)),
       turn .loop .inv .1,
-      omega (arith, asked .asks .kept .1 .1 .1 .1 .1 .1 .1 .1 .0, turn .loop .inv .2),
-      filling-ready (start .pre .0) _ (turn .loop .inv .0) _ most (omega arith) _ (omega arith) (put .0) (put .1)
-          (asked .asks .ensures .1),
     )
+
+same-length-3 : tie.Need-same-length-3 Inv-loop μ-loop
+same-length-3 c = c .before .before .before .before .loop .inv .0 .filling .len
 
 same-length-4 : tie.Need-same-length-4 Inv-loop μ-loop
-same-length-4 c = c .before .before .before .before .before .before .before .before .before .before .loop .inv .0 .len
-
-same-length-5 : tie.Need-same-length-5 Inv-loop μ-loop
-same-length-5 c = c .before .before .before .before .before .before .before .before .before .before .loop .inv .1
-
-same-length-6 : tie.Need-same-length-6 Inv-loop μ-loop
-same-length-6 c =
-    let asked = c .before .before .before .before .before in
-    let turn = asked .before .before .before .before .before in
-    omega (arith, asked .asks .kept .1 .1 .1 .1 .1 .1 .1 .1 .0, turn .loop .inv .2)
+same-length-4 c = c .before .before .before .before .loop .inv .1
 
 returns-2 : tie.Need-returns-2 Inv-loop μ-loop
 returns-2 c =
-    let none = c .before .before in
-    let asked = none .before .before .before in
-    let turn = asked .before .before .before .before .before in
-    let start = turn .before .before .before .before .before .before .before in
-    filling-ends (start .pre .0) _ (turn .loop .inv .0) _ (asked .asks .ensures .0) (none .if1 .taken) (c .if2 .taken)
+    let turn = c .before .before .before .before in
+    finding-ends (start turn .pre .0) _ (turn .loop .inv .0) (c .before .before .before .if1 .taken) (omega arith)
+    (c .if3 .taken)
 
 pub fill-spec : {M : Type 1} → statement M
 fill-spec =
@@ -250,35 +242,39 @@ fill-spec =
     μ-loop
     add-f
     loop-holds
-    mul-asks
-    mul-asks-2
-    sub-asks
-    part-asks-start
-    part-asks-end
-    asks-requires
+    sub-last-word
+    last-word-requires
+    mul-bits
+    slice-read-bits
+    mul-marks
+    slice-write-marks
+    loop-less
+    loop-again
     sub-f
     mul-widen
     shared-slice-read-widen
     widen-requires
-    add-b
-    gather-requires
-    mul-pass
-    mul-pass-2
-    sub-pass
-    part-pass-start
-    part-pass-end
-    pass-requires
-    loop-less
-    loop-again
-    same-length
-    same-length-2
-    same-length-3
-    returns
-    sub-at
-    put-pair-requires
+    mul-mark-asked
+    mul-mark-asked-2
+    sub-mark-asked
+    part-mark-asked-start
+    part-mark-asked-end
+    mark-asked-requires
+    add-word
     loop-less-2
     loop-again-2
+    highest-requires
+    same-length
+    same-length-2
+    returns
+    shl-bits
+    sub-bits
+    sub-at
+    mul-put-pair
+    add-put-pair
+    put-pair-requires
+    loop-less-3
+    loop-again-3
+    same-length-3
     same-length-4
-    same-length-5
-    same-length-6
     returns-2)

@@ -6,26 +6,34 @@ use borrow.Author.Needs.{needs}
 use lib.ListN.{length, take}
 use lib.Seq.{length-take-le}
 use Rattle.pairs.specs.Promise.{pairsAt}
+use Rattle.pairs.proofs.Marking.{no-marks}
 use Rattle.pairs.proofs.Whole.{filled-from, table-held, table-full}
 use Rattle.pairs.proofs.table.Statement.{statement}
 use Rattle.pairs.proofs.table.Tie as tie
 
+-- the places: the start, how many pairs there is room for, and the table filled
+abbrev start : tie.After-holds → tie.Start
+start c = c .before .before .before .before
+
+abbrev sized : tie.After-fill → tie.After-holds
+sized c = c .before .before .before
+
+abbrev filled : tie.After-known-told → tie.After-fill
+filled c = c .before .before .before .before .before .before
+
 -- the part that is lent to fill
 lent : (c : tie.After-holds) →
-    length (take (c .holds .result * 2) (c .before .before .before .before .args .table .now)) ≡ c .holds .result * 2
+    length (take (c .holds .result * 2) (start c .args .table .now)) ≡ c .holds .result * 2
 lent c = length-take-le _ _ (omega arith)
 
 -- where the pairs begin, and how many they are
 room : (c : tie.After-known-told) →
-    let sized = c .before .before .before .before .before .before .before .before .before .before .before in
-    let start = sized .before .before .before .before in
-    c .before .got .given .0 .0 + length (pairsAt (start .args .file .now) (start .args .shape) (start .args .target))
-    ≡ sized .holds .result
+    let given = start (sized (filled c)) .args in
+    c .before .got .given .0 .0 + length (pairsAt (given .file .now) (given .shape) (given .target))
+    ≡ sized (filled c) .holds .result
 room c =
-    let done = c .before .before .before .before .before .before .before in
-    let sized = done .before .before .before .before in
-    let start = sized .before .before .before .before in
-    filled-from _ (start .args .table .now) _ _ _ (sized .holds .ensures) (done .fill .ensures) _
+    let whole = sized (filled c) in
+    filled-from _ (start whole .args .table .now) _ _ _ (whole .holds .ensures) (filled c .fill .ensures) _
     (c .before .got .given .1)
 
 holds-requires : tie.Need-holds-requires
@@ -43,13 +51,11 @@ slice-aggregate-fill c = sym (lent (c .before))
 slice-aggregate-fill-2 : tie.Need-slice-aggregate-fill-2
 slice-aggregate-fill-2 c = search needs
 
-slice-aggregate-fill-3 : tie.Need-slice-aggregate-fill-3
-slice-aggregate-fill-3 c = search needs
-
 fill-requires : tie.Need-fill-requires
 fill-requires c κs =
-    let start = c .before .before .before .before .before .before .before in
-    (start .pre .0, start .pre .1, omega (arith, lent (c .before .before .before)), search needs, search needs)
+    let whole = c .before .before in
+    let given = start whole .pre in
+    (given .0, given .1, omega (arith, lent whole), no-marks 6995, search needs)
 
 enum-known-got : tie.Need-enum-known-got
 enum-known-got c = search needs
@@ -65,10 +71,9 @@ mul-move-down-2 c = search needs
 
 move-down-requires : tie.Need-move-down-requires
 move-down-requires c κs =
-    let done = c .before .before .before .before .before .before .before .before in
-    let q = c .before .before .before .before .before .before .before .table .given in
-    let r = done .fill .kept .1 .1 .1 .1 .0 in
-    omega (arith, room (c .before))
+    let told = c .before in
+    let same = filled told .fill .kept .1 .1 .1 .1 .0 in
+    omega (arith, room told, lent (sized (filled told)))
 
 mul-zero-rest-u32 : tie.Need-mul-zero-rest-u32
 mul-zero-rest-u32 c = search needs
@@ -87,28 +92,25 @@ same-length c = search needs
 
 returns : tie.Need-returns
 returns c =
+    let told = c .before .before .before .before .before .before .before .before in
+    let done = filled told in
+    let whole = sized done in
     let moved = c .before .before .before .before .before .before in
-    let got = c .before .before .before .before .before .before .before .before .before in
-    let done = got .before .before .before .before .before .before in
-    let sized = done .before .before .before .before in
-    let start = sized .before .before .before .before in
-    let q = c .before .before .before .before .before .table2 .given in
-    let r = moved .move-down .kept in
-    let e = got .got .given .1 in
-    let k = done .fill .kept .1 .1 .1 .1 .0 in
-    table-held _ (start .args .table .now) _ _ _ (sized .holds .ensures) (done .fill .ensures) _ _ _ e (omega arith)
-    (moved .move-down .ensures) (omega arith) (c .before .before .zero-rest-u32 .ensures)
+    let same = done .fill .kept .1 .1 .1 .1 .0 in
+    let long = moved .move-down .kept in
+    table-held _ (start whole .args .table .now) _ _ _ (whole .holds .ensures) (done .fill .ensures) _ _ _
+    (told .before .got .given .1) (omega arith) (moved .move-down .ensures) (omega arith)
+    (c .before .before .zero-rest-u32 .ensures)
 
 same-length-2 : tie.Need-same-length-2
 same-length-2 c = search needs
 
 returns-2 : tie.Need-returns-2
 returns-2 c =
-    let done = c .before .before .before .before .before .before .before .before .before .before in
-    let sized = done .before .before .before .before in
-    let start = sized .before .before .before .before in
-    let k = done .fill .kept .1 .1 .1 .1 .0 in
-    table-full _ (start .args .table .now) _ _ _ (sized .holds .ensures) (done .fill .ensures) _
+    let done = c .before .before .before .before .before .before .before .before .before in
+    let whole = sized done in
+    let same = done .fill .kept .1 .1 .1 .1 .0 in
+    table-full _ (start whole .args .table .now) _ _ _ (whole .holds .ensures) (done .fill .ensures) _
     (c .before .before .before .before .enum-told .given .1)
     (omega arith) (c .before .before .zero-rest-u322 .ensures)
 
@@ -121,7 +123,6 @@ table-spec =
     slice-relend-prefix-fill
     slice-aggregate-fill
     slice-aggregate-fill-2
-    slice-aggregate-fill-3
     fill-requires
     enum-known-got
     sub-n

@@ -1,26 +1,48 @@
--- `pairs::tops` meets its contract: the nodes before gate i have their tops. Assumes nothing.
-use mathlib.Core.Path.{_≡_, refl, sym}
+-- `pairs::tops` meets its contract: the nodes before gate i have their tops, and what is after all nodes is zeroed.
+-- Assumes nothing.
+use mathlib.Core.Path.{_≡_, refl, sym, _∙_}
 use Prim.Native.Nat.{_-_, _≤_}
 use native.Mathlib.Omega.{arith}
 use lib.ListN.{length, length-set}
-use lib.Seq.{length-take-le}
+use lib.Seq.{length-take-le, length-front}
 use Rattle.pairs.proofs.Topping.{Topping, topping-starts, topping-small, topping-more, topping-ends}
 use Rattle.pairs.proofs.tops.Statement.{statement}
 use Rattle.pairs.proofs.tops.Tie as tie
 
 abbrev Inv-loop : tie.InvT-loop
-Inv-loop file shape tops₀ i₀ tops i = (i ≤ shape .gates) × (length tops ≡ length tops₀) × Topping file shape tops i
+Inv-loop file shape tops₀ nodes i₀ tops i =
+    (i ≤ shape .gates) × (length tops ≡ length tops₀) × Topping file shape tops i
 
 abbrev μ-loop : tie.MeasureT-loop
-μ-loop file shape tops₀ i₀ tops i = shape .gates - i
+μ-loop file shape tops₀ nodes i₀ tops i = shape .gates - i
+
+-- the start, and that the slice keeps its length
+abbrev start : tie.At-loop Inv-loop μ-loop → tie.Start Inv-loop μ-loop
+start c = c .before .before .before .before .before .before .before .before
+
+long : (c : tie.At-loop Inv-loop μ-loop) → length (c .loop .tops) ≡ length (start c .args .tops .now)
+long c =
+    let zeroed = c .before .before .before .before .zero-u32 in
+    c .loop .inv .1
+    ∙ length-front (start c .args .tops .now) (zeroed .last .0) (start c .args .shape .inputs)
+    (omega (arith, zeroed .kept))
+
+slice-relend-prefix-zero-u32 : tie.Need-slice-relend-prefix-zero-u32 Inv-loop μ-loop
+slice-relend-prefix-zero-u32 c = omega (arith, c .before .before .pre .1)
+
+slice-aggregate-zero-u32 : tie.Need-slice-aggregate-zero-u32 Inv-loop μ-loop
+slice-aggregate-zero-u32 c = sym (length-take-le _ _ (omega (arith, c .before .before .before .pre .1)))
 
 zero-u32-requires : tie.Need-zero-u32-requires Inv-loop μ-loop
 zero-u32-requires c κs = tt
 
+add-nodes : tie.Need-add-nodes Inv-loop μ-loop
+add-nodes c = omega arith
+
 loop-holds : tie.Need-loop-holds Inv-loop μ-loop
 loop-holds c =
-    let start = c .before .before .before .before .before .before in
-    (omega arith, refl, topping-starts (start .pre .0) _ _ (start .pre .1) (c .before .before .zero-u32 .ensures))
+    let given = c .before .before .before .before .before .before .before .pre in
+    (omega arith, refl, topping-starts (given .0) _ _ (given .1) (c .before .before .before .zero-u32 .ensures))
 
 add-node : tie.Need-add-node Inv-loop μ-loop
 add-node c = omega arith
@@ -35,16 +57,14 @@ slice-aggregate-last-ready c =
 last-ready-requires : tie.Need-last-ready-requires Inv-loop μ-loop
 last-ready-requires c κs =
     let turn = c .before .before .before .before in
-    let start = turn .before .before .before .before .before .before .before in
-    (start .pre .0, c .before .before .if1 .taken, length-take-le _ _ (omega (arith, turn .loop .inv .2 .long)))
+    (start turn .pre .0, c .before .before .if1 .taken, length-take-le _ _ (omega (arith, turn .loop .inv .2 .long)))
 
 cast-tops : tie.Need-cast-tops Inv-loop μ-loop
 cast-tops c =
     let turn = c .before .before .before .before .before in
-    let start = turn .before .before .before .before .before .before .before in
     omega (
       arith,
-      topping-small (start .pre .0) _ (turn .loop .inv .2) (c .before .before .before .if1 .taken)
+      topping-small (start turn .pre .0) _ (turn .loop .inv .2) (c .before .before .before .if1 .taken)
           (c .last-ready .ensures),
     )
 
@@ -62,24 +82,24 @@ loop-less c = omega arith
 
 loop-again : tie.Need-loop-again Inv-loop μ-loop
 loop-again c =
-    let turn = c .before .before .before .before .before in
-    let start = turn .before .before .before .before .before .before .before in (
+    let turn = c .before .before .before .before .before in (
       omega arith,
       simp length-set (turn .loop .inv .1),
-      topping-more (start .pre .0) _ (turn .loop .inv .2) (c .before .before .before .if1 .taken)
+      topping-more (start turn .pre .0) _ (turn .loop .inv .2) (c .before .before .before .if1 .taken)
           (c .last-ready .ensures),
     )
 
+zero-rest-u32-requires : tie.Need-zero-rest-u32-requires Inv-loop μ-loop
+zero-rest-u32-requires c κs = c .before .before .before .loop .inv .2 .long
+
 same-length : tie.Need-same-length Inv-loop μ-loop
-same-length c =
-    let q = c .before .before .before .before .tops .given in
-    let r = c .before .before .before .before .before .zero-u32 .kept in
-    omega (arith, c .before .before .loop .inv .1)
+same-length c = omega (arith, long (c .before .before .before .before .before .before), c .before .before .zero-rest-u32 .kept)
 
 returns : tie.Need-returns Inv-loop μ-loop
 returns c =
-    topping-ends (c .before .before .before .before .before .before .before .before .before .pre .0)
-    (c .before .before .loop .inv .2) (c .if1 .left)
+    let turn = c .before .before .before .before .before .before in
+    topping-ends (start turn .pre .0) _ _ (turn .loop .inv .2) (omega arith) (long turn)
+    (c .before .before .zero-rest-u32 .ensures)
 
 pub tops-spec : {M : Type 1} → statement M
 tops-spec =
@@ -87,7 +107,10 @@ tops-spec =
     (tie.spec
     Inv-loop
     μ-loop
+    slice-relend-prefix-zero-u32
+    slice-aggregate-zero-u32
     zero-u32-requires
+    add-nodes
     loop-holds
     add-node
     slice-reshare-prefix-last-ready
@@ -99,5 +122,6 @@ tops-spec =
     add-i
     loop-less
     loop-again
+    zero-rest-u32-requires
     same-length
     returns)
