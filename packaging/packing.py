@@ -91,9 +91,9 @@ def tar_name():
     return f"buzzlumen-{version()}-x86_64-linux"
 
 
-def pack_tar(made, into, epoch):
-    """Write the archive file; gives its path."""
-    layout, target = made / "tar", into / f"{tar_name()}.tar.gz"
+def pack_tar(made, epoch):
+    """Write the archive file beside what was made for it; gives its path."""
+    layout, target = made / "tar", made / f"{tar_name()}.tar.gz"
     lay_out("tar", made, layout / tar_name(), epoch)
     with (target.open("wb") as raw, gzip.GzipFile("", "wb", 9, raw, mtime=0) as packed,
           tarfile.open(fileobj=packed, mode="w", format=tarfile.USTAR_FORMAT) as archive):
@@ -112,9 +112,9 @@ def of_root(member):
 # The Debian package
 
 
-def pack_deb(made, into, epoch):
-    """Write the Debian package; gives its path."""
-    layout, target = made / "deb", into / f"buzzlumen_{version()}_amd64.deb"
+def pack_deb(made, epoch):
+    """Write the Debian package beside what was made for it; gives its path."""
+    layout, target = made / "deb", made / f"buzzlumen_{version()}_amd64.deb"
     lay_out("deb", made, layout / "usr", epoch)
     control = layout / "DEBIAN"
     control.mkdir()
