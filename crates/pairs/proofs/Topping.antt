@@ -33,7 +33,7 @@ use Rattle.netlist.proofs.Entries.{pin-driver, pin-delay, pins-from, pins-done,
 use Rattle.netlist.proofs.GateRead.{gate-fields}
 use Rattle.settle.specs.Settling.{last, readyAt, topOf, topsOf}
 use Rattle.settle.proofs.Argument.{last-cong}
-use Rattle.settle.proofs.Nodes.{laid, runs, input-top, tops-length, tops-small}
+use Rattle.settle.proofs.Nodes.{laid, runs, input-top, tops-length, tops-small, Arrives, zero-arrives}
 use Rattle.pairs.specs.Promise.{Topped, Tops}
 
 -- ---- when the last pin of a gate is ready
@@ -171,9 +171,9 @@ module _ {file : List ℕ} {shape : Shape} (holds : Holds file shape) where
   topping-ends {tops} {i} room zeroed b h long z =
       let n = shape .inputs + shape .gates in
       let e : length (take n tops) ≡ n = length-take-le n tops (b .long) in
-      let all : take (shape .inputs + shape .gates) tops ≡ topsOf net (atZero net) =
-      ext-getD 0 (take n tops) (topsOf net (atZero net))
-      (e ∙ sym (tops-length net (atZero net) zeros ∙ node-count file shape))
+      let all : take (shape .inputs + shape .gates) tops ≡ topsOf (circuitAt file shape) =
+      ext-getD 0 (take n tops) (topsOf (circuitAt file shape))
+      (e ∙ sym (tops-length (circuitAt file shape) zeros ∙ node-count file shape))
       (λ k l.
       let q : k < shape .inputs + shape .gates = omega arith in
       getD-take n tops k 0 q ∙ b .is k (omega arith))
@@ -187,8 +187,8 @@ module _ {file : List ℕ} {shape : Shape} (holds : Holds file shape) where
       record {
         is =
             ap (take n) (w .is)
-            ∙ take-at (topsOf net (atZero net)) (replicate (room - n) 0) n
-            (tops-length net (atZero net) zeros ∙ node-count file shape);
+            ∙ take-at (topsOf (circuitAt file shape)) (replicate (room - n) 0) n
+            (tops-length (circuitAt file shape) zeros ∙ node-count file shape);
       }
 
   -- what is read at a node's number is its top, and small

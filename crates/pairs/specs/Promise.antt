@@ -16,7 +16,7 @@ use Rattle.pairs.specs.Table.{Precede}
 pub record Topped (file : List ℕ) (shape : Shape) (room : ℕ) (tops : List ℕ) : Type 0 where
   pub is :
       tops
-      ≡ topsOf (netlistAt file shape) (atZero (netlistAt file shape))
+      ≡ topsOf (circuitAt file shape)
       ++ replicate (room - (shape .inputs + shape .gates)) 0
 
 -- a lent slice begins with the tops of all nodes
