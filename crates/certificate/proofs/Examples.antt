@@ -141,8 +141,20 @@ unfolding accepted
 judgement-answer net delay vector rooms Passes = refl
 judgement-answer net delay vector rooms (Fails refusal) = refl
 
-abbrev answerTo : Case → Judged
+abbrev pub answerTo : Case → Judged
 answerTo c = answered (checkedTo (c .file) (c .delay) (c .vector) (c .refutation) (c .rooms))
+
+-- rows that are computed have their answers as the promise means it
+pub computed-hold : (rows : List Case) → map answerTo rows ≡ map (λ (c : Case). c .answer) rows → (c : Case) →
+    List·Memᴰ c rows → (result : Judgement)
+    × Judges (c .file) (c .delay) (c .vector) (c .refutation) (c .rooms) result × (result .answer ≡ c .answer)
+computed-hold rows e c i = (
+  judgementTo (c .file) (c .delay) (c .vector) (c .refutation) (c .rooms),
+  judgement-exists (c .file) (c .delay) (c .vector) (c .refutation) (c .rooms),
+  judgement-answer (netlistOf (c .file)) (c .delay) (c .vector) (c .rooms)
+      (checkedTo (c .file) (c .delay) (c .vector) (c .refutation) (c .rooms))
+      ∙ map-each answerTo (λ (d : Case). d .answer) rows e c i,
+)
 
 computed : map answerTo cases ≡ map (λ (c : Case). c .answer) cases
 unfolding
@@ -154,17 +166,11 @@ unfolding
     formulaFor numbersFor countsFor built buildingOf certificateRows rowsOf
 computed = refl
 
--- each row's call has the row's answer, as the promise means it
+-- each row's call has the row's answer
 pub cases-hold : (c : Case) → List·Memᴰ c cases →
     (result : Judgement) × Judges (c .file) (c .delay) (c .vector) (c .refutation) (c .rooms) result
     × (result .answer ≡ c .answer)
-cases-hold c i = (
-  judgementTo (c .file) (c .delay) (c .vector) (c .refutation) (c .rooms),
-  judgement-exists (c .file) (c .delay) (c .vector) (c .refutation) (c .rooms),
-  judgement-answer (netlistOf (c .file)) (c .delay) (c .vector) (c .rooms)
-      (checkedTo (c .file) (c .delay) (c .vector) (c .refutation) (c .rooms))
-      ∙ map-each answerTo (λ (d : Case). d .answer) cases computed c i,
-)
+cases-hold = computed-hold cases computed
 
 -- "true delay 2" of circuit A, by its certificate
 pub largest-of-A : Largest (netlistOf circuitA) (atZero (netlistOf circuitA)) 2

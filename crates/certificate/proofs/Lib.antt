@@ -3,8 +3,8 @@
 -- netlist), Variables (which variables occur), Numbers (the formula as numbers), LargestIs (a netlist has one largest
 -- settling time), Accepted (an accepted delay is it), Passing (what it says that a row passes), Granted (the promise
 -- of judge implies the theorem), Steps (how the parts of a call make the judgement), Left (demand 3 of what build
--- leaves), Unique (one judgement), Examples (document 01's cases on certificates), Table (all of document 01's cases
--- as one statement).
+-- leaves), Unique (one judgement), Examples and Edges (the table's certificate calls), Table (the one statement over
+-- all rows).
 pub mod Says
 pub mod Facts
 pub mod Complete
@@ -20,4 +20,5 @@ pub mod Steps
 pub mod Left
 pub mod Unique
 pub mod Examples
+pub mod Edges
 pub mod Table
