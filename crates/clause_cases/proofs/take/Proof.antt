@@ -13,7 +13,9 @@ slice-relend-prefix-answer-all c = search needs
 
 slice-aggregate-answer-all : tie.Need-slice-aggregate-answer-all
 slice-aggregate-answer-all c =
-    let a = c .before .before .before .args in sym (length-take-le (length (a .input .now) / 4) (a .numbers .now) (search needs))
+    let a = c .before .before .before .args in
+    let e = length-take-le (length (a .input .now) / 4) (a .numbers .now) (search needs) in
+    sym e
 
 answer-all-requires : tie.Need-answer-all-requires
 answer-all-requires c κs =
