@@ -329,7 +329,7 @@ formula-passes variables formula e =
     few false p false q false r e = apart e
     few false p false q true r e =
         record {
-          few = ltb-false 100000 variables p;
+          few = ltb-false _ variables p;
           within =
               beyond-all variables formula (ltb-false (firstBeyond variables formula) (length formula) q);
           last = holds r;
@@ -352,7 +352,7 @@ pub formula-accepted : (variables : ℕ) (formula : List ℤ) → WellFormed var
 unfolding formulaRows
 formula-accepted variables formula w =
     rw (
-      le-ltb 100000 variables (w .few),
+      le-ltb _ variables (w .few),
       beyond-length variables formula (w .within),
       le-ltb (length formula) (length formula) (omega arith),
       is-true (ended formula) (w .last),
