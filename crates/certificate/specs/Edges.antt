@@ -31,6 +31,7 @@ edges =
     ∷ case circuitA 2 (0 ∷ 1 ∷ []) [] (lending 4 5 0 0 0) (Refused (Room 5))
     ∷ case circuitA 2 (0 ∷ 1 ∷ []) [] (lending 5 4 0 0 0) (Refused (Room 5))
     ∷ case circuitA 2 (0 ∷ 1 ∷ []) [] (lending 5 5 5 0 0) (Refused (Witness 1))
+    ∷ case circuitA 4294967295 (0 ∷ 0 ∷ []) [] (lending 5 5 5 0 0) (Refused (Witness 2))
     ∷ case circuitA 2 (0 ∷ 0 ∷ []) [] (lending 5 5 5 47 0) (Refused Pairs)
     ∷ case circuitA 2 (0 ∷ 0 ∷ []) [] (lending 5 5 6 47 0) (Refused (Room 48))
     ∷ case circuitA 2 (0 ∷ 0 ∷ []) (pos 0 ∷ pos 0 ∷ pos 9 ∷ []) (lending 5 5 6 48 0) (Refused (Refutation 2))

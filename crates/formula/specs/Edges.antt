@@ -132,7 +132,8 @@ kinds =
     ((on 1 ∷ off 2 ∷ []) ∷ (off 1 ∷ on 2 ∷ []) ∷ (on 1 ∷ off 3 ∷ []) ∷ (off 1 ∷ on 3 ∷ [])
     ∷ (on 4 ∷ on 5 ∷ []) ∷ [])) ∷ []
 
--- circuit A at 0, where the output is late outright, at 1, 2 and 5, its top (3 and 6 are in Cases)
+-- circuit A at 0, where the output is late outright, at 1, 2 and 5, its top (3 and 6 are in Cases), and at the largest
+-- target
 unfoldable pub targets : List Case
 targets =
     builds circuitA 0 5 8 [] gateLines
@@ -140,7 +141,8 @@ targets =
     ∷ builds circuitA 2 7 12 (3 ∷ 1 ∷ 4 ∷ 2 ∷ [])
     (gateLines
     ++ lines ((off 7 ∷ on 6 ∷ []) ∷ (off 7 ∷ on 6 ∷ off 4 ∷ []) ∷ (off 7 ∷ off 2 ∷ []) ∷ (on 7 ∷ []) ∷ []))
-    ∷ builds circuitA 5 8 15 (2 ∷ 3 ∷ 3 ∷ 4 ∷ 4 ∷ 5 ∷ []) printed ∷ []
+    ∷ builds circuitA 5 8 15 (2 ∷ 3 ∷ 3 ∷ 4 ∷ 4 ∷ 5 ∷ []) printed
+    ∷ builds circuitA 4294967295 5 9 [] (gateLines ++ lines ([] ∷ [])) ∷ []
 
 -- 1 to 7 before 10; 10 before 9; each slice one short
 unfoldable pub orders : List Case

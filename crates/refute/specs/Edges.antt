@@ -17,8 +17,8 @@ case variables formula refutation room answer =
 abbrev nothing : List ℤ
 nothing = pos 0 ∷ []
 
--- 100,000 variables and one more; more with a literal beyond them; a literal beyond, of either sign, with no 0 at the
--- end; no 0 at the end; each with a refutation that is none
+-- 100,000 variables and one more; more with a literal beyond them; a literal beyond, the least number among them, in a
+-- list that does not end in 0; such a list by itself; most with a refutation that is none
 unfoldable pub formulas : List Case
 formulas =
     case 100000 [] nothing 0 (Refused (Room 100001))
@@ -26,13 +26,15 @@ formulas =
     ∷ case 100001 [] nothing 0 (Refused (Formula 0))
     ∷ case 100001 (pos 1 ∷ pos 100002 ∷ []) [] 0 (Refused (Formula 0))
     ∷ case 100000 (pos 1 ∷ pos 100001 ∷ []) [] 0 (Refused (Formula 1))
+    ∷ case 100000 (pos 1 ∷ negsuc 2147483647 ∷ pos 0 ∷ []) nothing 0 (Refused (Formula 1))
     ∷ case 2 (pos 1 ∷ negsuc 2 ∷ []) [] 0 (Refused (Formula 1))
     ∷ case 2 (pos 3 ∷ negsuc 2 ∷ pos 0 ∷ []) [] 0 (Refused (Formula 0))
     ∷ case 2 (pos 2 ∷ negsuc 1 ∷ []) [] 0 (Refused (Formula 2))
     ∷ case 2 (pos 0 ∷ pos 1 ∷ []) (pos 3 ∷ []) 0 (Refused (Formula 2))
     ∷ case 0 (pos 1 ∷ pos 0 ∷ []) nothing 1 (Refused (Formula 0)) ∷ []
 
--- a literal beyond with no 0 at the end; empty; no 0 at the end; each with clauses that LAST refuses, and no room
+-- a literal beyond, in a list that does not end in 0; empty; such a list by itself; most with clauses that LAST
+-- refuses, and none with room
 unfoldable pub refutations : List Case
 refutations =
     case 2 fourClauses (pos 1 ∷ pos 3 ∷ []) 0 (Refused (Refutation 1))
