@@ -1,7 +1,7 @@
 /* The library's twin in plain C: the same four functions by the same kind of algorithm, for comparison of speed and as
  * a stand-in for the library while the tests are tried.
  *
- * Written from document 01 alone. The functions are named twin_evaluate, twin_build, twin_check and twin_judge, so
+ * Written from docs/RULES.md alone. The functions are named twin_evaluate, twin_build, twin_check and twin_judge, so
  * that they can be linked beside the library; -DPREFIX=buzzlumen_ gives them the library's names instead.
  * Pairs are found by filling the table from its end, each time with the largest pair that is asked for below those
  * found; unit propagation runs over both lists in list order, assigning as it goes, until a pass assigns nothing.
@@ -499,8 +499,8 @@ static int32_t late(const lateness *l, const uint32_t *table, pin *p, uint32_t t
     return (int32_t)(nodes_of(l->n) + 1 + p->next);
 }
 
-/* "-p, or some driver late": left out where one surely is. For a simple gate then, for each pin, "-p, driver late,
- * driver is not c". */
+/* The clauses of a pair (rule F12): some driver is late, left out where one surely is; then, where the gate is simple, a
+ * clause for each pin. */
 static void write_pair(writer *w, gate it, const pin *pins, int32_t variable, int some_surely)
 {
     if (!some_surely) {

@@ -504,12 +504,19 @@ def adder_calls(bits, block):
     return calls
 
 
-FIXED_ROUNDS = [
+FIRST_ROUNDS = [
     lambda dice: edge_calls(),
     lambda dice: adder_calls(12, 2),
     lambda dice: adder_calls(16, 4),
-    *[lambda dice, count=count: ladder_calls(dice, count) for count in (65535, 65536, 65537)],
-    *[lambda dice, count=count: ladder_calls(dice, count) for count in (1, 2, 3, 10, 100, 1000)],
+]
+
+# How many pairs the ladders have, around the most that a table holds and few; the number of the round of each.
+LADDERS = (65535, 65536, 65537, 1, 2, 3, 10, 100, 1000)
+LADDER_ROUNDS = {count: len(FIRST_ROUNDS) + place for place, count in enumerate(LADDERS)}
+
+FIXED_ROUNDS = [
+    *FIRST_ROUNDS,
+    *[lambda dice, count=count: ladder_calls(dice, count) for count in LADDERS],
     solver_calls,
     *[largest_calls] * 4,
     *[lambda dice, share=share: boundary_calls(dice, share) for share in range(BOUNDARY_SHARES)],

@@ -20,7 +20,7 @@ TABLE = (
     ("OUTPUT", "outputs not rising, or no such node", "its position"),
     ("VECTOR", "not one byte for each input, or a byte over 1", "the number of inputs, or the byte's position"),
     ("ROOM", "a lent slice is shorter than needed", "the length needed"),
-    ("PAIRS", "more pairs than the table holds, or than 65,536", None),
+    ("PAIRS", "over 65,536 pairs, or more than the lent table has room for", None),
     ("FORMULA", "V over 100,000, or a literal over V, or last number not 0", "0, or its index, or the length"),
     ("REFUTATION", "a literal over V, or empty, or last number not 0", "its index, or the length"),
     ("LAST", "an empty clause before the last, or none", "that clause, or the number of clauses"),

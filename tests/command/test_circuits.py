@@ -116,7 +116,7 @@ class Circuits(Asking):
             self.assertEqual(answer.out, f"refused {refused.number} {refused.place}\n")
 
     def test_table(self):
-        """The table of refusals has document 01's names at document 01's numbers."""
+        """The table of refusals has the rules' names at the rules' numbers."""
         for number, (name, _, _) in enumerate(refusals.TABLE, 1):
             self.assertEqual(number, getattr(document, name))
 

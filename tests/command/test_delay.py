@@ -123,7 +123,7 @@ class Parts(unittest.TestCase):
     """What the search rests on."""
 
     def test_pairs(self):
-        """Pairs are counted as document 01 counts them; an output's own netlist settles as the whole does."""
+        """Pairs are counted as the rules count them; an output's own netlist settles as the whole does."""
         for seed in range(40):
             circuit = methods.random_netlist(methods.Dice(seed, 5), 5, 14)
             own = netlist.read_netlist(write_netlist(circuit))

@@ -109,7 +109,7 @@ def wrong_of_steps(formula, data, answer):
 
 
 def wrong_of_certificate(netlist, data, answer):
-    """What is wrong with a judgement: nothing is accepted but what document 01 accepts."""
+    """What is wrong with a judgement: nothing is accepted but what the rules accept."""
     if answer.status:
         return "" if answer.status in (1, 2) else "status"
     text = re.sub(r"#.*", "", data.decode())

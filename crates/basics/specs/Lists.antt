@@ -1,5 +1,5 @@
--- Tests over lists, and lists made from lists: short names for what document 01 says in words, "some", "each", "for
--- each". Interface: all of it.
+-- Tests over lists, and lists made from lists: short names for what the rules say in words: some, each, for each.
+-- Interface: all of it.
 use mathlib.Core.Bool.{Bool, true, false, _&&_, _||_, cond}
 use mathlib.Core.List.{List, [], _∷_, _++_}
 use Prim.Native.Nat.{ℕ, zero, suc}

@@ -1,4 +1,4 @@
--- A formula's variables fit 32 bits: an accepted netlist has at most 512 nodes, a table at most 65,536 pairs.
+-- A formula's variables fit 32 bits: an of-accepted netlist has at most 512 nodes, a table at most 65,536 pairs.
 -- Assumes nothing.
 use mathlib.Core.Path.{_≡_, refl}
 use mathlib.Core.List.{List}
@@ -15,7 +15,7 @@ use Rattle.netlist.specs.Open.{openOf}
 use Rattle.netlist.proofs.Accepted.{holds}
 use Rattle.netlist.proofs.Entries.{node-count}
 use Rattle.formula.specs.Promise.{countsFor, refused, built, buildingRows, buildingOf, building}
-use Rattle.formula.proofs.Rows.{accepted, rejected}
+use Rattle.formula.proofs.Rows.{of-accepted, of-rejected}
 use Rattle.formula.proofs.Answers.{pairs-fit}
 use Rattle.buzzlumen.specs.Answers.{Small}
 
@@ -37,9 +37,9 @@ pub small : (file : List ℕ) (target pairsRoom formulaRoom : ℕ) →
 small file target pairsRoom formulaRoom = go (openOf file) refl
   where
     go : (o : Opened) → openOf file ≡ o → Small (building file target pairsRoom formulaRoom .answer)
-    go (Rejected refusal) e = rw (rejected file target pairsRoom formulaRoom refusal e) tt
+    go (Rejected refusal) e = rw (of-rejected file target pairsRoom formulaRoom refusal e) tt
     go (Accepted shape) e =
         let h = holds file shape e in
         let n = node-count file shape in
-        rw (accepted file target pairsRoom formulaRoom shape e)
-        (of-circuit (circuitAt file shape) target pairsRoom formulaRoom (omega (arith, h .inputs-few, h .gates-few)))
+        rw (of-accepted file target pairsRoom formulaRoom shape e)
+        (of-circuit (circuitAt file shape) target pairsRoom formulaRoom (omega (arith, h .counts .inputs-few, h .counts .gates-few)))

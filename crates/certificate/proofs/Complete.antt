@@ -59,7 +59,7 @@ module _ {I N : ℕ} {gates : List (ℕ × Cell)} {value : ℕ → Bool} {time t
           let b = known .runs .time-top n h in
           le→leb (suc t) (top n) (omega arith)))))
 
-  -- "node late at t" is true exactly where the node settles at t or later
+  -- that a node is late at t is true exactly where it settles at t or after it
   late-is : (n t : ℕ) → n < N → Listed I top times n t → lateTrue I top node pair σ n t ≡ leb t (time n)
   late-is n t h l = late-says I top node pair σ n t ∙ go (decide (ltb n I))
     where

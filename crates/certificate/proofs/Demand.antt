@@ -14,7 +14,7 @@ use Rattle.netlist.specs.Netlist.{valid, nodes, nodeCount, Circuit}
 use Rattle.netlist.proofs.Valid.{valid-outputs}
 use Rattle.settle.specs.Settling.{valueOf, timeOf, topOf}
 use Rattle.settle.proofs.Nodes.{laid, runs, input-value, Arrives}
-use Rattle.pairs.specs.Pairs.{timesAt, pairsFor, placeOf}
+use Rattle.pairs.specs.Pairs.{timesAt, pairsFor, pairPlace}
 use Rattle.pairs.proofs.Closed.{closed-for, place-for}
 use Rattle.formula.specs.Formula.{nodeVariable, pairVariable, formulaFor}
 use Rattle.certificate.specs.Demand.{Solution, someLate, Demand}
@@ -58,7 +58,7 @@ module _ (circuit : Circuit) (ok : T (valid (circuit .net))) (as-many : Arrives 
       assignment (pairVariable circuit target f t) ≡ leb t (timeOf circuit vector f)
   unfolding assignment pairVariable
   assignment-pair f t m =
-      let place : ℕ = placeOf f t (pairsFor circuit target) in
+      let place : ℕ = pairPlace f t (pairsFor circuit target) in
       let e : nodeCount (circuit .net) + place - nodeCount (circuit .net) ≡ place = omega arith in
       rw
       (is-false (ltb (nodeCount (circuit .net) + place) (nodeCount (circuit .net)))

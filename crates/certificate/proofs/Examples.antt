@@ -39,12 +39,12 @@ use Rattle.refute.specs.Rows.{refutationForm, firstBeyond, ended, lastRow, firs
 use Rattle.refute.specs.Promise.{malformed}
 use Rattle.refute.specs.Reading.{answerOf}
 use Rattle.refute.proofs.Judging.{formula-within, rows-pass, judged-answer}
-use Rattle.pairs.specs.Pairs.{asked, timesAt, pairList, placeOf, pairsFor}
+use Rattle.pairs.specs.Pairs.{asked, timesAt, pairList, pairPlace, pairsFor}
 use Rattle.formula.specs.Formula.{clauseOf, gateClauses, late, pairClauses, formula, pairVariable, formulaFor}
 use Rattle.formula.specs.Promise.{numbersFor, countsFor, buildingRows}
 use Rattle.formula.proofs.Answers.{pairs-fit}
 use Rattle.certificate.specs.Largest.{Largest}
-use Rattle.certificate.specs.Promise.{Rooms, Judgement, Meets, certificateRows, accepted, judgementOf, Judges}
+use Rattle.certificate.specs.Promise.{Rooms, Judgement, Meets, certificateRows, certified, judgementOf, Judges}
 use Rattle.certificate.specs.Cases.{Case, wire, cases}
 use Rattle.certificate.proofs.Numbers.{numbers-well-formed}
 use Rattle.certificate.proofs.Passing.{certificate-passes}
@@ -124,12 +124,24 @@ judgement-exists file delay vector refutation rooms =
 
 judgement-answer : (circuit : Circuit) (delay : ℕ) (vector : List ℕ) (rooms : Rooms) (answer : Checked) →
     judgementOf circuit delay vector rooms answer .answer ≡ answer
-unfolding accepted
+unfolding certified
 judgement-answer circuit delay vector rooms Passes = refl
 judgement-answer circuit delay vector rooms (Refused refusal) = refl
 
-abbrev answerTo : Case → Checked
+abbrev pub answerTo : Case → Checked
 answerTo c = checkedTo (c .file) (c .delay) (c .vector) (c .refutation) (c .rooms)
+
+-- rows that are computed have their answers as the promise means it
+pub computed-hold : (rows : List Case) → map answerTo rows ≡ map (λ (c : Case). c .answer) rows → (c : Case) →
+    List·Memᴰ c rows → (result : Judgement)
+    × Judges (c .file) (c .delay) (c .vector) (c .refutation) (c .rooms) result × (result .answer ≡ c .answer)
+computed-hold rows e c i = (
+  judgementTo (c .file) (c .delay) (c .vector) (c .refutation) (c .rooms),
+  judgement-exists (c .file) (c .delay) (c .vector) (c .refutation) (c .rooms),
+  judgement-answer (circuitOf (c .file)) (c .delay) (c .vector) (c .rooms)
+      (checkedTo (c .file) (c .delay) (c .vector) (c .refutation) (c .rooms))
+      ∙ map-each answerTo (λ (d : Case). d .answer) rows e c i,
+)
 
 computed : map answerTo cases ≡ map (λ (c : Case). c .answer) cases
 unfolding
@@ -137,23 +149,17 @@ unfolding
     pinWrong pinPlace outputWrong outputPlace kinds kindRow tableBytes shapeOf gateAt pinAt pinsFrom cellOf cellAt
     netlistAt gateValue settles grow valuesOf timesOf topsOf circuitTime byteWrong givenRows flat clausesFrom
     isTrue isFree assign say pass refutes assert follows verdict refutationForm firstBeyond ended lastRow firstEmpty
-    asked timesAt pairList placeOf pairsFor clauseOf gateClauses late pairClauses formula pairVariable
+    asked timesAt pairList pairPlace pairsFor clauseOf gateClauses late pairClauses formula pairVariable
     formulaFor numbersFor countsFor buildingRows
 computed = refl
 
--- each row's call has the row's answer, as the promise means it
+-- each row's call has the row's answer
 pub cases-hold : (c : Case) → List·Memᴰ c cases →
     (result : Judgement) × Judges (c .file) (c .delay) (c .vector) (c .refutation) (c .rooms) result
     × (result .answer ≡ c .answer)
-cases-hold c i = (
-  judgementTo (c .file) (c .delay) (c .vector) (c .refutation) (c .rooms),
-  judgement-exists (c .file) (c .delay) (c .vector) (c .refutation) (c .rooms),
-  judgement-answer (circuitOf (c .file)) (c .delay) (c .vector) (c .rooms)
-      (checkedTo (c .file) (c .delay) (c .vector) (c .refutation) (c .rooms))
-      ∙ map-each answerTo (λ (d : Case). d .answer) cases computed c i,
-)
+cases-hold = computed-hold cases computed
 
--- "true delay 2" of circuit A, by its certificate
+-- the true delay of circuit A is 2, by its certificate
 pub largest-of-A : Largest (circuitOf circuitA) 2
 unfolding cases
 largest-of-A =

@@ -23,7 +23,7 @@ use Rattle.netlist.proofs.Calls.{accepted-circuit, passed-opened}
 use Rattle.settle.specs.Promise.{bits}
 use Rattle.clauses.specs.Clauses.{Literal, clausesOf}
 use Rattle.refute.specs.Propagation.{Judged, passes}
-use Rattle.refute.specs.Promise.{Answers, malformed, accepted, step}
+use Rattle.refute.specs.Promise.{Answers, malformed, passed, stopped}
 use Rattle.formula.specs.Promise.{numbersFor, countsFor}
 use Rattle.certificate.specs.Largest.{Largest}
 use Rattle.certificate.specs.Promise.{Rooms, Judgement, certificateRows, judgementOf, Judges}
@@ -35,8 +35,8 @@ passes-both : {rows : List Row} {answer : Checked} {stored refutation : List (Li
     Answers rows stored refutation answer → answer ≡ Passes →
     (checked rows ≡ Passes) × Judged stored refutation passes
 passes-both (malformed e) p = let w : _≡_ {A = ℕ} 0 1 = cc in absurd (omega arith)
-passes-both (accepted e verdict) p = (e, verdict)
-passes-both (step e verdict) p = let w : _≡_ {A = ℕ} 0 1 = cc in absurd (omega arith)
+passes-both (passed e verdict) p = (e, verdict)
+passes-both (stopped e verdict) p = let w : _≡_ {A = ℕ} 0 1 = cc in absurd (omega arith)
 
 -- a judgement that passes is of a pass
 answer-passes : (circuit : Circuit) (delay : ℕ) (vector : List ℕ) (rooms : Rooms) (answer : Checked) →

@@ -20,12 +20,12 @@ use Rattle.clauses.specs.Clauses.{Literal, clausesOf}
 use Rattle.formula.specs.declared.Counts.{Counts}
 use Rattle.formula.specs.declared.Built.the-variants.{Formula, Refused as Unbuilt}
 use Rattle.formula.specs.Promise.{numbersFor, Building, buildingOf, building}
-use Rattle.formula.proofs.Rows.{accepted, rejected}
+use Rattle.formula.proofs.Rows.{of-accepted, of-rejected}
 use Rattle.certificate.specs.Demand.{Completes, someLate}
 use Rattle.certificate.proofs.Demand.{demand-at}
 use Rattle.certificate.proofs.Numbers.{numbers-read}
 use Rattle.certificate.proofs.Granted.{opened-valid}
-use Rattle.certificate.proofs.Steps.{formed}
+use Rattle.certificate.proofs.Steps.{formula-front}
 
 -- of the formula's numbers
 pub demand-of-numbers : (circuit : Circuit) → T (valid (circuit .net)) → Arrives circuit →
@@ -38,7 +38,7 @@ demand-of-numbers circuit ok as-many target vector as-long =
     (sym (numbers-read circuit ok target))
     (demand-at circuit ok as-many vector as-long target)
 
--- a building that answers with counts is of an accepted file
+-- a building that answers with counts is of an of-accepted file
 built-opened : (file : List ℕ) (target pairsRoom formulaRoom : ℕ) (counts : Counts) →
     building file target pairsRoom formulaRoom .answer ≡ Formula counts →
     T (valid (circuitOf file .net))
@@ -50,12 +50,12 @@ built-opened file target pairsRoom formulaRoom counts f = go (openOf file) refl
         × (building file target pairsRoom formulaRoom ≡ buildingOf (circuitOf file) target pairsRoom formulaRoom)
     go (Untaken refusal) e =
         let z : Unbuilt refusal ≡ Formula counts =
-        sym (ap (λ (b : Building). b .answer) (rejected file target pairsRoom formulaRoom refusal e)) ∙ f
+        sym (ap (λ (b : Building). b .answer) (of-rejected file target pairsRoom formulaRoom refusal e)) ∙ f
         in
         let w : _≡_ {A = ℕ} 0 1 = cc in absurd (omega arith)
     go (Taken shape) e = (
       opened-valid file shape e,
-      accepted file target pairsRoom formulaRoom shape e
+      of-accepted file target pairsRoom formulaRoom shape e
           ∙ ap (λ (circuit : Circuit). buildingOf circuit target pairsRoom formulaRoom) (sym (accepted-circuit file e)),
     )
 
@@ -69,7 +69,7 @@ pub demand-of-build : (file : List ℕ) (target pairsRoom formulaRoom : ℕ) (co
 demand-of-build file target pairsRoom formulaRoom counts e vector as-long =
     let opened = built-opened file target pairsRoom formulaRoom counts e in
     let front =
-    formed pairsRoom formulaRoom (opened .0) (ap (λ (b : Building). b .answer) (opened .1))
+    formula-front pairsRoom formulaRoom (opened .0) (ap (λ (b : Building). b .answer) (opened .1))
     (ap (λ (b : Building). b .formula) (opened .1)) e
     in
     subst

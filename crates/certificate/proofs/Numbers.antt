@@ -14,7 +14,7 @@ use Rattle.basics.proofs.Truth.{and-both, and-left, and-right}
 use Rattle.basics.proofs.Lists.{all-join, all-mono}
 use Rattle.netlist.specs.Netlist.{valid, Circuit}
 use Rattle.netlist.proofs.Valid.{valid-inputs-few, valid-gates-few}
-use Rattle.clauses.specs.Clauses.{Literal, numberOf, flat, clausesOf}
+use Rattle.clauses.specs.Clauses.{Literal, literalNumber, flat, clausesOf}
 use Rattle.clauses.proofs.Flat.{hasVariable, flat-reads}
 use Rattle.refute.specs.Rows.{magnitude, ended, WellFormed}
 use Rattle.pairs.specs.Pairs.{pairsFor}
@@ -36,15 +36,15 @@ module _ (variables : ℕ) where
   abbrev within : ℤ → Bool
   within z = leb (magnitude z) variables
 
-  number-within : (b : Bool) (n : ℕ) → T (leb n variables) → T (within (numberOf (b, n)))
+  number-within : (b : Bool) (n : ℕ) → T (leb n variables) → T (within (literalNumber (b, n)))
   number-within true n t = t
   number-within false zero t = t
   number-within false (suc n) t = t
 
-  numbers-within : (c : List Literal) → T (all small c) → T (all within (map numberOf c))
+  numbers-within : (c : List Literal) → T (all small c) → T (all within (map literalNumber c))
   numbers-within [] t = tt
   numbers-within (l ∷ c) t =
-      and-both (within (numberOf l)) (all within (map numberOf c))
+      and-both (within (literalNumber l)) (all within (map literalNumber c))
       (number-within (l .0) (l .1) (and-left (small l) (all small c) t))
       (numbers-within c (and-right (small l) (all small c) t))
 
@@ -52,7 +52,7 @@ module _ (variables : ℕ) where
   unfolding flat
   flat-within [] t = tt
   flat-within (c ∷ cs) t =
-      all-join within (map numberOf c) (pos 0 ∷ flat cs)
+      all-join within (map literalNumber c) (pos 0 ∷ flat cs)
       (numbers-within c (and-left (all small c) (all (all small) cs) t))
       (and-both (within (pos 0)) (all within (flat cs)) (subst T (sym (leb·zero variables)) tt)
       (flat-within cs (and-right (all small c) (all (all small) cs) t)))
@@ -80,7 +80,7 @@ flat-ended : (clauses : List (List Literal)) → T (ended (flat clauses))
 unfolding flat ended
 flat-ended [] = tt
 flat-ended (c ∷ cs) =
-    ended-append (map numberOf c) (pos 0 ∷ flat cs) (omega arith) (ended-zero (flat cs) (flat-ended cs))
+    ended-append (map literalNumber c) (pos 0 ∷ flat cs) (omega arith) (ended-zero (flat cs) (flat-ended cs))
 
 -- ---- of a valid netlist's formula
 

@@ -109,7 +109,7 @@ module _ {X : Type 0} (node : ℕ → X) (σ : X → Bool) where
     abbrev at : Pin → Bool
     at p = Bool·beq (driverTrue p) c
 
-    -- "for each pin, driver is not c, gate is k"
+    -- for each pin: the driver is not at c, or the gate is k
     forcing-says : (ps : List Pin) →
         solves σ (map (λ p. is node (p .driver) (not c) ∷ is node f k ∷ []) ps)
         ≡ (not (any at ps) || Bool·beq (σ (node f)) k)
@@ -123,7 +123,7 @@ module _ {X : Type 0} (node : ℕ → X) (σ : X → Bool) where
         (any at ps)
         (Bool·beq (σ (node f)) k)
 
-    -- "driver is c for every pin and gate is not k"
+    -- some driver is at c, or the gate is not k
     otherwise-says : (ps : List Pin) →
         any (literalTrue σ) (map (λ p. is node (p .driver) c) ps ++ (is node f (not k) ∷ []))
         ≡ (any at ps || Bool·beq (σ (node f)) (not k))
@@ -233,7 +233,7 @@ module _ {X : Type 0} (I : ℕ) (top : ℕ → ℕ) (node : ℕ → X) (pair : �
   one-pin-clauses f t c [] = refl
   one-pin-clauses f t c (p ∷ ps) = ap (λ r. cubeClause f t ((p, c) ∷ []) ++ r) (one-pin-clauses f t c ps)
 
-  -- document 01's words for each kind are the clauses of its controlling cubes
+  -- the clauses of rule F12, for each kind, are those of its controlling cubes
   pub control-clauses : (f : ℕ) (kind : Kind) (ps : List Pin) (t : ℕ) →
       controlClauses I top node pair f kind ps t ≡ concatMap (cubeClause f t) (cubes kind ps)
   control-clauses f (Simple c k) ps t = one-pin-clauses f t c ps
@@ -241,7 +241,7 @@ module _ {X : Type 0} (I : ℕ) (top : ℕ → ℕ) (node : ℕ → X) (pair : �
   control-clauses f Mux ps t = refl
 
   module _ (σ : X → Bool) where
-    -- what the assignment says of "node late at t"
+    -- what the assignment says of a node's being late at t
     abbrev pub lateTrue : ℕ → ℕ → Bool
     lateTrue n t = partTrue σ (late I top node pair n t)
 
@@ -249,7 +249,7 @@ module _ {X : Type 0} (I : ℕ) (top : ℕ → ℕ) (node : ℕ → X) (pair : �
     abbrev pub driverLateTrue : ℕ → Pin → Bool
     driverLateTrue t p = partTrue σ (driverLate I top node pair t p)
 
-    -- "literal false"
+    -- a literal that is false
     abbrev pub driverFails : Pin → Bool → Bool
     driverFails p b = Bool·beq (σ (node (p .driver))) (not b)
 
@@ -304,7 +304,7 @@ module _ {X : Type 0} (I : ℕ) (top : ℕ → ℕ) (node : ℕ → X) (pair : �
         (any (driverLateTrue t) ps)
         (all (any (slowOrFalse t)) (cubes kind ps))
 
-    -- what "node late at t" says: for an input its top, for a gate t = 0 or the pair's variable
+    -- what it says that a node is late at t: for an input its top, for a gate t = 0 or the pair's variable
     pub late-says : (n t : ℕ) →
         lateTrue n t ≡ cond (ltb n I) (leb t (top n)) (leb t zero || leb t (top n) && σ (pair n t))
     unfolding late

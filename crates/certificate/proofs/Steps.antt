@@ -1,5 +1,5 @@
 -- The steps of a certificate call, and how they make the judgement: a refusal of a step is the judgement's, since the
--- rows before it passed; where all pass, what they left is what acceptance leaves. Laws: time-small; formed,
+-- rows before it passed; where all pass, what they left is what acceptance leaves. Laws: time-small; formula-front,
 -- refutes-refused, refutes-tested; certified-unsettled, certified-late, certified-tested; judges-unopened,
 -- judges-refused, judges-accepted. Assumes nothing.
 use mathlib.Core.Path.{_≡_, refl, sym, ap, ap₂, _∙_, subst}
@@ -49,7 +49,7 @@ use Rattle.certificate.specs.Promise.{
   refutingRows,
   certificateRows,
   refused,
-  accepted,
+  certified,
   judgementOf,
   Judges,
   roomsOf,
@@ -70,20 +70,20 @@ time-small net vector valuesRoom timesRoom ok a e =
 
 -- ---- the refutation's part
 
--- what the building leaves for the test: the formula's numbers are the front of its slice, and well formed
-pub record Formed (circuit : Circuit) (target : ℕ) (counts : Counts) (formula : List ℤ) : Type 0 where
+-- what the building leaves for the test: the formula's numbers are the front of its slice, and well formula-front
+pub record FormulaFront (circuit : Circuit) (target : ℕ) (counts : Counts) (formula : List ℤ) : Type 0 where
   pub fit : counts .numbers ≤ length formula
   pub numbers-are : take (counts .numbers) formula ≡ numbersFor circuit target
   pub front-long : counts .numbers ≡ length (take (counts .numbers) formula)
   pub variables-are : counts .variables ≡ countsFor circuit target .variables
   pub well-formed : WellFormed (counts .variables) (take (counts .numbers) formula)
 
-pub formed : {circuit : Circuit} {target : ℕ} (pairsRoom formulaRoom : ℕ) {answer : Built} {counts : Counts}
+pub formula-front : {circuit : Circuit} {target : ℕ} (pairsRoom formulaRoom : ℕ) {answer : Built} {counts : Counts}
     {formula : List ℤ} → T (valid (circuit .net)) → answer ≡ buildingOf circuit target pairsRoom formulaRoom .answer →
     formula ≡ buildingOf circuit target pairsRoom formulaRoom .formula → answer ≡ Formula counts →
-    Formed circuit target counts formula
+    FormulaFront circuit target counts formula
 unfolding countsFor built
-formed {circuit} {target} pairsRoom formulaRoom {answer} {counts} {formula} ok a f e =
+formula-front {circuit} {target} pairsRoom formulaRoom {answer} {counts} {formula} ok a f e =
     let b = answer-counts circuit target pairsRoom formulaRoom a e in
     let n : counts .numbers ≡ length (numbersFor circuit target) = ap (λ (k : Counts). k .numbers) (b .1) in
     let v = ap (λ (k : Counts). k .variables) (b .1) in
@@ -140,7 +140,7 @@ module _ {circuit : Circuit} {target : ℕ} {refutation : List ℤ} {pairsRoom f
       propagation ≡ replicate propagationRoom 0 →
       Refutes circuit target refutation pairsRoom formulaRoom propagationRoom tested pairs formula propagation
   refutes-tested {counts} {tested} ok a p f l m n e t z =
-      let b = formed pairsRoom formulaRoom ok a f e in
+      let b = formula-front pairsRoom formulaRoom ok a f e in
       record {
         answers =
             answers-as
@@ -230,7 +230,7 @@ module _ {circuit : Circuit} {delay : ℕ} {vector : List ℕ} {refutation : Lis
         Refutes circuit target refutation (rooms .pairs) (rooms .formula) (rooms .propagation) tested pairs formula
         propagation →
         Certified circuit delay vector refutation rooms tested values times pairs formula propagation
-    unfolding accepted
+    unfolding certified
     certified-tested {tested} h v t l m next r =
         let says = answer-time circuit vector (rooms .values) (rooms .times) a e in
         record {

@@ -27,7 +27,7 @@ use Rattle.netlist.specs.Netlist.{Cell, Pin, nodeCount, valid, Circuit}
 use Rattle.settle.specs.Cubes.{Cube, cubes}
 use Rattle.settle.proofs.Cubes.{cube-pin}
 use Rattle.settle.proofs.Nodes.{Laid, laid}
-use Rattle.pairs.specs.Pairs.{pairsFor, placeOf}
+use Rattle.pairs.specs.Pairs.{pairsFor, pairPlace}
 use Rattle.pairs.proofs.Closed.{Closed, closed-for, placed-for}
 use Rattle.formula.specs.Formula.{
   Part,
@@ -227,7 +227,7 @@ module _ {I N : ℕ} {gates : List (ℕ × Cell)} {top : ℕ → ℕ} {times : �
 
 -- ---- over integers
 
--- "A node's variable is its number plus 1. Pairs take N+1, N+2 and on": V of a netlist's formula
+-- the variables of nodes and of pairs (rule F5): V of a netlist's formula
 abbrev pub variablesFor : Circuit → ℕ → ℕ
 variablesFor circuit target = nodeCount (circuit .net) + length (pairsFor circuit target)
 
@@ -248,5 +248,5 @@ formula-variables circuit ok target =
     (λ n h. is-variable (variablesFor circuit target) (suc n) (omega arith) (omega arith))
     (λ n t m.
     let below = placed-for circuit ok target n t m in
-    is-variable (variablesFor circuit target) (suc (nodeCount (circuit .net) + placeOf n t (pairsFor circuit target)))
+    is-variable (variablesFor circuit target) (suc (nodeCount (circuit .net) + pairPlace n t (pairsFor circuit target)))
     (omega arith) (omega arith))

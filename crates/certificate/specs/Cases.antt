@@ -1,4 +1,4 @@
--- Document 01's cases on certificates as one table: circuit A, an output that is an input, and the rooms just below
+-- The cases of rule X3 on certificates as one table: circuit A, an output that is an input, and the rooms just below
 -- what is needed. proofs/Examples has that each row's call has the row's answer. Interface: Case, cases.
 use mathlib.Core.List.{List, [], _∷_}
 use Prim.Native.Nat.{ℕ}
@@ -35,12 +35,12 @@ case file delay vector refutation rooms answer =
       answer = answer;
     }
 
--- "An output that is an input, G=0": one input, one output
+-- one input that is the output, and no gate
 unfoldable pub wire : List ℕ
 wire = 0 ∷ 0 ∷ 2 ∷ 0 ∷ 0 ∷ 0 ∷ 1 ∷ 0 ∷ 0 ∷ 0 ∷ 0 ∷ 0 ∷ 1 ∷ 0 ∷ 1 ∷ 0 ∷ []
 
--- "A, D=2, vector 0,0, refutation "0": accepted. Vector 0,1: WITNESS 1. D=5, vector 0,0: WITNESS 2."
--- "An output that is an input, G=0: D=0 accepted with "0"."
+-- First the rows of rule X3: circuit A with its certificate, with another vector, with another delay; and the input
+-- that is an output.
 -- Then, for circuit A's certificate: each slice one short, a vector that is none, and refutations that are none.
 unfoldable pub cases : List Case
 cases =

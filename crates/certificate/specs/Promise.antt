@@ -1,6 +1,6 @@
--- What `judge` answers and leaves in the five lent slices, for every input. "In a certificate call: 1..8, room for
--- values and times, 15, 10, room for the formula, 12, 13, room for propagation, 14." The rows of evaluation, of
--- building and of the test of a refutation are those of crates settle, formula and refute. Interface: Judges.
+-- What `judge` answers and leaves in the five lent slices, for every input, by the checks of rule C3. The rows of
+-- evaluation, of building and of the test of a refutation are those of crates settle, formula and refute. Interface:
+-- Judges.
 use mathlib.Core.Path.{_≡_}
 use mathlib.Core.Bool.{not}
 use mathlib.Core.List.{List, _∷_, _++_}
@@ -74,15 +74,14 @@ pub record Meets (promised result : Judgement) : Type 0 where
 
 -- ---- the rows before 14
 
--- 15 WITNESS "the vector doesn't settle at D": "time it does"
+-- 15 WITNESS: under the vector the circuit settles at another time than D; its place is that time
 abbrev pub witnessRow : Circuit → ℕ → List ℕ → Row
 witnessRow circuit delay vector = (
   not (eqb (circuitTime circuit (bits vector)) delay),
   Witness (circuitTime circuit (bits vector)),
 )
 
--- the formula for a target is built, and the refutation tested against it: 10, room for the formula, 12, 13, room for
--- propagation
+-- the formula for a target is built, and the refutation tested against it: the rows of building, then those of a test
 abbrev pub refutingRows : Circuit → ℕ → List ℤ → ℕ → ℕ → ℕ → List Row
 refutingRows circuit target refutation pairsRoom formulaRoom propagationRoom =
     buildingRows circuit target pairsRoom formulaRoom
@@ -97,7 +96,7 @@ certificateRows delay vector refutation rooms circuit =
 
 -- ---- answer and slices
 
--- "Any refusal zeroes all slices lent for writing."
+-- after a refusal every lent slice holds zeros (rule C7)
 abbrev pub refused : Rooms → Refusal → Judgement
 refused rooms refusal =
     record {
@@ -109,10 +108,10 @@ refused rooms refusal =
       propagation = replicate (rooms .propagation) 0;
     }
 
--- "A building or certificate call that succeeds leaves pairs and formula in their slices, a certificate call also
--- values and times. Success zeroes whatever part wasn't needed, and the whole propagation slice."
-unfoldable pub accepted : Circuit → ℕ → List ℕ → Rooms → Judgement
-accepted circuit delay vector rooms =
+-- after acceptance values and times, pairs and formula stand at the front of their slices, with zeros in all of the
+-- rest, and the propagation slice holds only zeros (rule C8)
+unfoldable pub certified : Circuit → ℕ → List ℕ → Rooms → Judgement
+certified circuit delay vector rooms =
     record {
       answer = Passes;
       values = evaluationOf circuit vector (rooms .values) (rooms .times) .values;
@@ -125,7 +124,7 @@ accepted circuit delay vector rooms =
 -- what a check comes to
 abbrev pub judgementOf : Circuit → ℕ → List ℕ → Rooms → Checked → Judgement
 judgementOf circuit delay vector rooms answer = unlessRefused answer (refused rooms)
-    (accepted circuit delay vector rooms)
+    (certified circuit delay vector rooms)
 
 -- of any bytes, any delay, any vector and any refutation: the first row before 14 that refuses; or else 14 STEP, or
 -- acceptance, by the order-free verdict on the refutation against the very numbers of the formula for D+1

@@ -18,7 +18,7 @@ use Rattle.certificate.specs.Promise.{
   certificateRows,
   roomsOf,
   leaving,
-  accepted,
+  certified,
 }
 
 -- the formula for a target is built, and the refutation tested against its numbers
@@ -41,5 +41,5 @@ pub record Certified (circuit : Circuit) (delay : ℕ) (vector : List ℕ) (refu
       Answers (certificateRows delay vector refutation rooms circuit) (clausesOf (numbersFor circuit (suc delay)))
       (clausesOf refutation) answer
   pub leaves : answer ≡ Passes →
-      Meets (accepted circuit delay vector rooms) (leaving Passes values times pairs formula propagation)
+      Meets (certified circuit delay vector rooms) (leaving Passes values times pairs formula propagation)
   pub rooms-are : roomsOf values times pairs formula propagation ≡ rooms

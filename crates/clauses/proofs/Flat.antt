@@ -7,14 +7,14 @@ use lib.Dec.{T, ltb}
 use lib.IntN.{ℤ, pos, negℤ}
 use Rattle.basics.specs.Lists.{all}
 use Rattle.basics.proofs.Truth.{and-left, and-right}
-use Rattle.clauses.specs.Clauses.{Literal, numberOf, flat, clausesFrom, clausesOf}
+use Rattle.clauses.specs.Clauses.{Literal, literalNumber, flat, clausesFrom, clausesOf}
 
 -- variables count from 1
 abbrev pub hasVariable : Literal → Bool
 hasVariable l = ltb 0 (l .1)
 
 reads-clause : (c begun : List Literal) (zs : List ℤ) → T (all hasVariable c) →
-    clausesFrom begun (map numberOf c ++ (pos 0 ∷ zs)) ≡ (begun ++ c) ∷ clausesFrom [] zs
+    clausesFrom begun (map literalNumber c ++ (pos 0 ∷ zs)) ≡ (begun ++ c) ∷ clausesFrom [] zs
 unfolding clausesFrom
 reads-clause [] begun zs t = ap (λ d. d ∷ clausesFrom [] zs) (sym (append-nil begun))
 reads-clause (l ∷ c) begun zs t =
@@ -24,9 +24,9 @@ reads-clause (l ∷ c) begun zs t =
     ∙ ap (λ d. d ∷ clausesFrom [] zs) (append-assoc begun (m ∷ []) c))
   where
     go : (b : Bool) (n : ℕ) → (b, n) ≡ l →
-        ((m : Literal) → clausesFrom (begun ++ (m ∷ [])) (map numberOf c ++ (pos 0 ∷ zs))
+        ((m : Literal) → clausesFrom (begun ++ (m ∷ [])) (map literalNumber c ++ (pos 0 ∷ zs))
         ≡ (begun ++ (m ∷ c)) ∷ clausesFrom [] zs) →
-        clausesFrom begun (cond b (pos n) (negℤ (pos n)) ∷ (map numberOf c ++ (pos 0 ∷ zs)))
+        clausesFrom begun (cond b (pos n) (negℤ (pos n)) ∷ (map literalNumber c ++ (pos 0 ∷ zs)))
         ≡ (begun ++ (l ∷ c)) ∷ clausesFrom [] zs
     go b zero e ih = absurd (subst (λ x. T (hasVariable x)) (sym e) (and-left (hasVariable l) (all hasVariable c) t))
     go true (suc n) e ih = rw (← e) (ih (true, suc n))

@@ -14,16 +14,16 @@ abbrev pub opposite : Literal → Literal
 opposite l = (not (l .0), l .1)
 
 -- the number of a literal: its variable, negative where it wants false
-abbrev pub numberOf : Literal → ℤ
-numberOf l = cond (l .0) (pos (l .1)) (negℤ (pos (l .1)))
+abbrev pub literalNumber : Literal → ℤ
+literalNumber l = cond (l .0) (pos (l .1)) (negℤ (pos (l .1)))
 
--- "each clause ended by 0"
+-- clauses one behind the other, a 0 behind each (rule F7)
 unfoldable pub flat : List (List Literal) → List ℤ
 flat [] = []
-flat (c ∷ cs) = map numberOf c ++ (pos 0 ∷ flat cs)
+flat (c ∷ cs) = map literalNumber c ++ (pos 0 ∷ flat cs)
 
--- the clauses of a list of numbers, where the literals `begun` of a clause were read before it;
--- "numbers after a list's last 0 are no clause"
+-- the clauses of a list of numbers, where the literals `begun` of a clause were read before it; what stands behind the
+-- last 0 belongs to no clause (rule L1)
 unfoldable pub clausesFrom : List Literal → List ℤ → List (List Literal)
 clausesFrom begun [] = []
 clausesFrom begun (pos zero ∷ zs) = begun ∷ clausesFrom [] zs

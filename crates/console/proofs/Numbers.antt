@@ -1,12 +1,14 @@
--- A slice whose first k entries are what they are to be; one store more makes it k + 1. Assumes nothing.
-use mathlib.Core.Path.{_≡_, refl, sym, subst, _∙_}
-use mathlib.Core.List.{List}
-use Prim.Native.Nat.{ℕ, _+_, _<_, _≤_}
+-- A slice whose first k entries are what they are to be; one store more makes it k + 1, and with all of them it is the
+-- list of what they are to be. Assumes nothing.
+use mathlib.Core.Path.{_≡_, refl, sym, ap, ap₂, subst, _∙_}
+use mathlib.Core.List.{List, [], _∷_, map}
+use Prim.Native.Nat.{ℕ, suc, _+_, _<_, _≤_}
 use native.Mathlib.Omega.{arith}
 use native.Mathlib.Decide.{ℕ-discrete}
 use lib.IntN.{ℤ, pos}
 use lib.ListN.{length, getD, set, length-set}
 use lib.Seq.{getD-set-same, getD-set-other}
+use Rattle.basics.specs.Lists.{upFrom}
 
 -- the entries before k are f's
 pub record Reading (f : ℕ → ℤ) (before now : List ℤ) (k : ℕ) : Type 0 where
@@ -30,3 +32,16 @@ reading-more {f} {before} {now} {k} x b h e =
     go j l (yes p) =
         subst (λ (i : ℕ). getD (set now k x) i (pos 0) ≡ f i) (sym p) (getD-set-same now k x (pos 0) h ∙ e)
     go j l (no p) = getD-set-other now k j x (pos 0) p ∙ b .is j (omega arith)
+
+-- a list is made of its entries
+as-made : (f : ℕ → ℤ) (l : List ℤ) (a : ℕ) → ((j : ℕ) → j < length l → getD l j (pos 0) ≡ f (a + j)) →
+    l ≡ map f (upFrom a (length l))
+as-made f [] a h = refl
+as-made f (x ∷ l) a h =
+    ap₂ (λ (y : ℤ) (m : List ℤ). y ∷ m) (h 0 (omega arith) ∙ ap f (omega arith))
+    (as-made f l (suc a) (λ j k. h (suc j) (omega arith) ∙ ap f (omega arith)))
+
+pub reading-ends : {f : ℕ → ℤ} {before now : List ℤ} {k : ℕ} → Reading f before now k → length now ≤ k →
+    now ≡ map f (upFrom 0 (length before))
+reading-ends {f} {before} {now} {k} b h =
+    as-made f now 0 (λ j l. b .is j (omega (arith, h)) ∙ ap f (omega arith)) ∙ ap (λ n. map f (upFrom 0 n)) (b .long)

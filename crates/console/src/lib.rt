@@ -4,12 +4,11 @@ use libc::STDIN_FILENO;
 use libc::STDOUT_FILENO;
 use refusal::Refusal;
 ghost use mathlib.Core.Path.{_≡_};
-ghost use Prim.Native.Nat.{ℕ, _*_, _≤_, _<_, min};
-ghost use lib.IntN.{pos};
-ghost use lib.ListN.{length, getD};
-ghost use Rattle.lent.specs.Bytes.{fourBytes};
-ghost use Rattle.clauses.specs.Codes.{signedOf};
+ghost use mathlib.Core.Bool.{false};
+ghost use Prim.Native.Nat.{_*_, _≤_, min};
+ghost use lib.ListN.{length};
 ghost use Rattle.io.specs.Counts.{Counts};
+ghost use Rattle.console.specs.Reading.{numbersOf, wordOf, Came};
 
 // Words as they are.
 pub fn print(words: &[u8]) {
@@ -41,7 +40,9 @@ pub fn print_refused(refusal: Refusal) {
 }
 
 // The last line of a bundle of cases that is not one; there is no more case.
-pub fn bad_bundle() -> bool {
+pub fn bad_bundle() -> bool
+    ensures { λ r. ⌜ r ≡ false ⌝ }
+{
     print(b"bad bundle\n");
     false
 }
@@ -60,17 +61,27 @@ pub enum Word {
     Cut,
 }
 
-// Reads four bytes, little endian.
-pub fn read_number() -> Word {
-    let mut head = [0u8; 4];
-    let got = read(&mut head);
+// The word in four bytes, of which so many came.
+fn word_of(got: usize, head: &[u8]) -> Word
+    requires { ⌜ 4 ≤ length (now head) ⌝ }
+    ensures { λ r. ⌜ r ≡ wordOf got (now (head .entry)) ⌝ }
+{
     if got == 0 {
         return Word::Nothing;
     }
     if got < 4 {
         return Word::Cut;
     }
-    Word::Number(lent::four_bytes(&head, 0))
+    Word::Number(lent::four_bytes(head, 0))
+}
+
+// Reads four bytes, little endian.
+pub fn read_number() -> Word
+    ensures { λ r. ⌜ Came r ⌝ }
+{
+    let mut head = [0u8; 4];
+    let got = read(&mut head);
+    word_of(got, &head)
 }
 
 // The smaller of two numbers: what is told of a length, and what is there.
@@ -83,10 +94,7 @@ pub fn least(told: usize, there: usize) -> usize
 // Signed numbers out of bytes, four bytes each, little endian: as many as the slice has room for.
 pub fn numbers_of(bytes: &[u8], numbers: &mut [i32])
     requires { ⌜ length (now numbers) * 4 ≤ length (now bytes) ⌝ }
-    ensures { λ _. ⌜
-        ((k : ℕ) → k < length (now (numbers .entry)) →
-        getD (now (numbers .exit)) k (pos 0) ≡ signedOf (fourBytes (now (bytes .entry)) (k * 4)))
-        ⌝ }
+    ensures { λ _. ⌜ now (numbers .exit) ≡ numbersOf (now (bytes .entry)) (length (now (numbers .entry))) ⌝ }
 {
     let mut k = 0;
     while k < numbers.len() {

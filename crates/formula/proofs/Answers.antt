@@ -22,11 +22,11 @@ use Rattle.formula.specs.Promise.{
   refused,
   numbersFor,
   countsFor,
-  tableHolds,
   built,
   buildingRows,
   buildingOf,
 }
+use Rattle.pairs.specs.Promise.{tableHolds}
 
 module _ (circuit : Circuit) (target pairsRoom formulaRoom : ℕ) where
   module _ {answer : Built} (a : answer ≡ buildingOf circuit target pairsRoom formulaRoom .answer) where

@@ -1,4 +1,4 @@
--- "Late at t", case by case, and its code. Assumes nothing.
+-- Lateness (rule F2), case by case, and its code. Assumes nothing.
 use mathlib.Core.Path.{_≡_, refl, sym, ap, ap₂, _∙_}
 use mathlib.Core.Bool.{Bool, true, false, not, _||_, cond}
 use mathlib.Core.List.{List, [], _∷_, _++_, map}
@@ -9,7 +9,7 @@ use lib.Dec.{leb, ltb, eqb}
 use lib.ListN.{length, getD, take}
 use borrow.Author.Tests.{lt-ltb, le-ltb, le-leb, lt-leb, ne-eqb}
 use Rattle.basics.specs.Lists.{any, concatMap}
-use Rattle.pairs.specs.Pairs.{placeOf}
+use Rattle.pairs.specs.Pairs.{pairPlace}
 use Rattle.pairs.specs.Table.{pairsIn}
 use Rattle.pairs.specs.Promise.{Lists, Findable}
 use Rattle.pairs.proofs.Flat.{pairs-flat}
@@ -40,18 +40,18 @@ pub pairs-listed : (table : List ℕ) (pairs : List (ℕ × ℕ)) → Lists tabl
 pairs-listed table pairs l = sym (even-part table) ∙ ap pairsIn (l .is) ∙ pairs-flat pairs
 
 -- what the search finds
-pub record Found (table : List ℕ) (node t r : ℕ) : Type 0 where
-  pub is : r ≡ placeOf node t (pairsIn table)
+pub record PlaceFound (table : List ℕ) (node t r : ℕ) : Type 0 where
+  pub is : r ≡ pairPlace node t (pairsIn table)
   pub below : r < length table / 2
 
 pub place-found : (table : List ℕ) (node t r : ℕ) → Findable table (length table / 2) node t →
-    ((pairs : List (ℕ × ℕ)) → Lists table (length table / 2) pairs → r ≡ placeOf node t pairs) → Found table node t r
+    ((pairs : List (ℕ × ℕ)) → Lists table (length table / 2) pairs → r ≡ pairPlace node t pairs) → PlaceFound table node t r
 place-found table node t r f h =
     let e = h (f .pairs) (f .lists) in
     let b = place-below node t (f .pairs) (f .here) in
     let l = f .lists .all in
     record {
-      is = e ∙ ap (placeOf node t) (sym (pairs-listed table (f .pairs) (f .lists)));
+      is = e ∙ ap (pairPlace node t) (sym (pairs-listed table (f .pairs) (f .lists)));
       below = omega arith;
     }
 
@@ -106,7 +106,7 @@ module _ (l : Lent) (node t : ℕ) where
   late-run =
       late-any (λ p. codeRun (partCode p) ≡ partRun p) refl refl (λ n. rw (le-ltb (suc n * 2) 2 (omega arith)))
 
-  -- "-p, driver late, driver is not c", by the codes
+  -- one pin's further clause of a simple gate, by the codes
   pub late-control : (c : Bool) (own driver : ℕ) →
       shareRun (Control c) own driver (partCode (lateIn l node t))
       ≡ tokensOf (clauseOf (literal false own ∷ lateIn l node t ∷ literal (not c) (suc driver) ∷ []))

@@ -9,7 +9,7 @@ use lib.IntN.{ℤ, pos, negℤ}
 use lib.ListN.{length, take, set, length-map, length-set}
 use lib.Seq.{take-suc-set}
 use borrow.Author.Tests.{eq-eqb, ne-eqb}
-use Rattle.clauses.specs.Clauses.{Literal, numberOf, flat}
+use Rattle.clauses.specs.Clauses.{Literal, literalNumber, flat}
 use Rattle.clauses.specs.Codes.{decoded, literalCode, written}
 use Rattle.formula.specs.declared.Emitted.{Emitted}
 use Rattle.formula.specs.Emission.{Token, ended, tokenCode, ends, wants, tokensOf, start, Emits}
@@ -17,7 +17,7 @@ use Rattle.formula.specs.Emission.{Token, ended, tokenCode, ends, wants,
 -- ---- a clause list's tokens and its numbers
 
 -- a literal's code says its number
-literal-decoded : (l : Literal) → decoded (literalCode l) ≡ numberOf l
+literal-decoded : (l : Literal) → decoded (literalCode l) ≡ literalNumber l
 unfolding decoded
 literal-decoded l = go (l .0) (l .1)
   where
@@ -31,7 +31,7 @@ literal-decoded l = go (l .0) (l .1)
         let h : (n * 2 + 1) / 2 ≡ n = omega arith in
         rw (ne-eqb ((n * 2 + 1) % 2) 0 (λ z. absurd (omega arith)), h)
 
-clause-decoded : (c : List Literal) → map decoded (map tokenCode (map wants c)) ≡ map numberOf c
+clause-decoded : (c : List Literal) → map decoded (map tokenCode (map wants c)) ≡ map literalNumber c
 clause-decoded [] = refl
 clause-decoded (l ∷ c) = ap₂ (λ (x : ℤ) (xs : List ℤ). x ∷ xs) (literal-decoded l) (clause-decoded c)
 

@@ -10,7 +10,7 @@ use Rattle.netlist.specs.File.{gateAt, cellOf, cellAt, pinsFrom}
 use Rattle.netlist.specs.Holds.{Holds}
 use Rattle.netlist.proofs.GateRead.{gate-fields, gate-within, gate-takes}
 use Rattle.netlist.proofs.Valid.{takes-few}
-use Rattle.pairs.specs.Pairs.{placeOf}
+use Rattle.pairs.specs.Pairs.{pairPlace}
 use Rattle.pairs.specs.Table.{pairsIn, pairAt}
 use Rattle.pairs.proofs.Flat.{pairs-at}
 use Rattle.formula.specs.declared.Moment.{Moment}
@@ -69,7 +69,7 @@ gated-now {file} {l} {starts} {number} gate holds ready h e =
                   listed = λ x y z. absurd (omega arith);
                 };
           };
-      within = omega (arith, holds .pins-few);
+      within = omega (arith, holds .counts .pins-few);
       few = takes-few (gate .kind) (gate .count) (gate-takes gate holds h e);
     }
 
@@ -82,7 +82,7 @@ module _ {file : List ℕ} {l : Lent} {k node t : ℕ} (gate : Gate) (s : Stands
       let w = gate-within gate holds here e in
       record {
         drivers = subst (λ (g : Gate). Served file l Pins (g .first) (g .count) t) (sym e) (s .drivers);
-        within = omega (arith, holds .pins-few);
+        within = omega (arith, holds .counts .pins-few);
         few = takes-few (gate .kind) (gate .count) (gate-takes gate holds here e);
       }
 
@@ -93,7 +93,7 @@ module _ {file : List ℕ} {l : Lent} {k node t : ℕ} (gate : Gate) (s : Stands
   unfolding cellAt cellOf pinsFrom variableIn
   pair-here p =
       let o = s .own in
-      let v : nodesIn l + k + 1 ≡ suc (nodesIn l + placeOf node t (pairsIn (l .table))) = omega arith in
+      let v : nodesIn l + k + 1 ≡ suc (nodesIn l + pairPlace node t (pairsIn (l .table))) = omega arith in
       ap₂ (λ (n : ℕ) (g : Gate).
       clausesIn l n (g .kind) (pinsFrom file (l .shape) (g .first) (g .count)) t) v e
       ∙ sym (ap (runOf file l) p)

@@ -35,12 +35,12 @@ use Rattle.formula.specs.Promise.{
   refused,
   numbersFor,
   countsFor,
-  tableHolds,
   built,
   buildingRows,
   buildingOf,
   building,
 }
+use Rattle.pairs.specs.Promise.{tableHolds}
 use Rattle.formula.specs.Emission.{start, Emits}
 use Rattle.formula.specs.declared.Side.the-variants.{Outputs}
 use Rattle.formula.specs.Late.{lent, wholeRun, AllStand, Served, Slices}
@@ -196,16 +196,16 @@ listed-none file shape target pairsRoom formulaRoom pairs formula listed h e f =
     (record { answer-is = refl; pairs-are = w .1; formula-is = f })
 
 module _ (file : List ℕ) (target pairsRoom formulaRoom : ℕ) where
-  pub accepted : (shape : Shape) → openOf file ≡ Accepted shape →
+  pub of-accepted : (shape : Shape) → openOf file ≡ Accepted shape →
       building file target pairsRoom formulaRoom ≡ buildingOf (circuitAt file shape) target pairsRoom formulaRoom
   unfolding building buildingOf
-  accepted shape e =
+  of-accepted shape e =
       call-accepted file (λ circuit. buildingRows circuit target pairsRoom formulaRoom) (refused pairsRoom formulaRoom)
       (λ circuit. built circuit target pairsRoom formulaRoom) e
 
-  pub rejected : (refusal : Refusal) → openOf file ≡ Rejected refusal →
+  pub of-rejected : (refusal : Refusal) → openOf file ≡ Rejected refusal →
       building file target pairsRoom formulaRoom ≡ refused pairsRoom formulaRoom refusal
   unfolding building
-  rejected refusal e =
+  of-rejected refusal e =
       call-rejected file (λ circuit. buildingRows circuit target pairsRoom formulaRoom) (refused pairsRoom formulaRoom)
       (λ circuit. built circuit target pairsRoom formulaRoom) e

@@ -14,7 +14,7 @@ use Rattle.netlist.specs.Holds.{Holds}
 use Rattle.netlist.proofs.Entries.{node-count, node-has, pin-has, output-has}
 use Rattle.settle.specs.Settling.{topsOf}
 use Rattle.settle.proofs.Nodes.{tops-length}
-use Rattle.pairs.specs.Pairs.{flatPairs, placeOf}
+use Rattle.pairs.specs.Pairs.{flatPairs, pairPlace}
 use Rattle.pairs.specs.Table.{pairAt, keyOf, Sorted}
 use Rattle.pairs.specs.Promise.{pairsAt, Lists}
 use Rattle.pairs.proofs.Flat.{flat-length, pairs-flat, mem-at}
@@ -38,16 +38,16 @@ lentAt file shape target = lent shape (topsAt file shape) (tableAt file shape ta
 
 -- each pair of a sorted list has its own place
 own-place : (l : List (ℕ × ℕ)) → Sorted l → (k : ℕ) → k < length l →
-    placeOf (pairAt l k .0) (pairAt l k .1) l ≡ k
-own-place l s k h = go (placeOf (pairAt l k .0) (pairAt l k .1) l) below same (decLt _ k) (decLt k _)
+    pairPlace (pairAt l k .0) (pairAt l k .1) l ≡ k
+own-place l s k h = go (pairPlace (pairAt l k .0) (pairAt l k .1) l) below same (decLt _ k) (decLt k _)
   where
     m : List·Memᴰ (pairAt l k) l
     m = mem-at (0, 0) l k h
 
-    below : placeOf (pairAt l k .0) (pairAt l k .1) l < length l
+    below : pairPlace (pairAt l k .0) (pairAt l k .1) l < length l
     below = place-below (pairAt l k .0) (pairAt l k .1) l m
 
-    same : keyOf (pairAt l (placeOf (pairAt l k .0) (pairAt l k .1) l)) ≡ keyOf (pairAt l k)
+    same : keyOf (pairAt l (pairPlace (pairAt l k .0) (pairAt l k .1) l)) ≡ keyOf (pairAt l k)
     same = ap keyOf (place-at (pairAt l k .0) (pairAt l k .1) l (0, 0) m)
 
     go : (j : ℕ) → j < length l → keyOf (pairAt l j) ≡ keyOf (pairAt l k) → Dec (j < k) → Dec (k < j) → j ≡ k
@@ -153,7 +153,7 @@ module _ (file : List ℕ) (shape : Shape) (target : ℕ) (ok : Holds file shape
       Slices (lentAt file shape target)
   slices h =
       record {
-        nodes-few = omega (arith, ok .inputs-few, ok .gates-few);
+        nodes-few = omega (arith, ok .counts .inputs-few, ok .counts .gates-few);
         tops-all = all-tops;
         pairs-few = omega (arith, flat-length (pairsAt file shape target));
         sorted = lists-sorted lists;

@@ -27,7 +27,7 @@ use Rattle.netlist.specs.File.{cellAt, netlistAt, circuitAt}
 use Rattle.netlist.proofs.Entries.{node-count, node-only}
 use Rattle.clauses.specs.Clauses.{Literal}
 use Rattle.settle.specs.Settling.{topOf}
-use Rattle.pairs.specs.Pairs.{timesAt, pairList, pairsFor, placeOf}
+use Rattle.pairs.specs.Pairs.{timesAt, pairList, pairsFor, pairPlace}
 use Rattle.pairs.specs.Table.{pairsIn}
 use Rattle.pairs.specs.Promise.{pairsAt}
 use Rattle.pairs.proofs.Flat.{pairs-flat, pairs-length}
@@ -134,7 +134,7 @@ module _ (file : List ℕ) (shape : Shape) (target : ℕ) where
       ≡ pairVariable (circuitAt file shape) target
   unfolding variableIn pairVariable
   variables =
-      let after : ℕ → List (ℕ × ℕ) → ℕ → ℕ → ℕ = λ n l f t. suc (n + placeOf f t l) in
+      let after : ℕ → List (ℕ × ℕ) → ℕ → ℕ → ℕ = λ n l f t. suc (n + pairPlace f t l) in
       ap₂ after (sym (node-count file shape)) (pairs-flat (pairsAt file shape target))
 
   -- a gate and a time

@@ -1,4 +1,4 @@
--- Document 01's cases on the formula, on circuit A's bytes, as one statement over one table: a row is the target and
+-- The cases of rule X3 on the formula, on circuit A's bytes, as one statement over one table: a row is the target and
 -- the lengths of the two lent slices, and the answer and the whole content of both slices that `build` is to leave.
 -- Interface: Case, cases, hold.
 use mathlib.Core.Path.{_≡_, refl}
@@ -27,7 +27,7 @@ use Rattle.netlist.specs.Open.{
 use Rattle.netlist.specs.Example.{circuitA}
 use Rattle.settle.specs.Settling.{grow, topsOf}
 use Rattle.clauses.specs.Clauses.{flat}
-use Rattle.pairs.specs.Pairs.{asked, timesAt, pairList, flatPairs, pairsFor, placeOf}
+use Rattle.pairs.specs.Pairs.{asked, timesAt, pairList, flatPairs, pairsFor, pairPlace}
 use Rattle.formula.specs.declared.Built.the-variants.{Formula, Refused}
 use Rattle.formula.specs.Formula.{clauseOf, gateClauses, late, pairClauses, formula, pairVariable, formulaFor}
 use Rattle.formula.specs.Promise.{Building, numbersFor, countsFor, built, buildingRows, building}
@@ -47,8 +47,8 @@ gateLines =
     ∷ pos 3 ∷ negsuc 3 ∷ pos 0 ∷ pos 2 ∷ negsuc 3 ∷ pos 0 ∷ negsuc 2 ∷ negsuc 1 ∷ pos 4 ∷ pos 0
     ∷ negsuc 3 ∷ pos 5 ∷ pos 0 ∷ negsuc 1 ∷ pos 5 ∷ pos 0 ∷ pos 4 ∷ pos 2 ∷ negsuc 4 ∷ pos 0 ∷ []
 
--- "A at T=3 has 48 numbers", those of the page, and three pairs; with one number more and two, they are zeroed;
--- "At T=6: p cnf 5 9, last line 0": V is 5, and the last of 9 clauses is empty;
+-- T = 3: the 48 numbers of rule X2, and three pairs; with one number more and two, they are zeroed;
+-- T = 6: V is 5, and the last of 9 clauses is empty;
 -- with room for 47 numbers: ROOM 48; with room for 5 numbers of pairs: PAIRS 0; both slices zeroed
 unfoldable pub cases : List Case
 cases =
@@ -115,6 +115,6 @@ pub hold : map (λ (c : Case). building circuitA (c .target) (c .pairsRoom) (c .
 unfolding
     circuitA netlistRows firstWrong countWrong backWrong pinsBefore gateWrong gatePlace sumWrong pinsAt pinWrong
     pinPlace outputWrong outputPlace kinds kindRow tableBytes shapeOf gateAt pinAt pinsFrom cellOf cellAt
-    netlistAt grow topsOf flat asked timesAt pairList flatPairs pairsFor placeOf clauseOf gateClauses late pairClauses
+    netlistAt grow topsOf flat asked timesAt pairList flatPairs pairsFor pairPlace clauseOf gateClauses late pairClauses
     formula pairVariable formulaFor numbersFor countsFor built buildingRows building printed gateLines cases
 hold = refl

@@ -36,7 +36,7 @@ ends (ended ∷ tokens) = suc (ends tokens)
 abbrev pub wants : Literal → Token
 wants l = coded (literalCode l)
 
--- "each clause ended by 0"
+-- each clause's literals, and the 0 behind them
 unfoldable pub tokensOf : List (List Literal) → List Token
 tokensOf [] = []
 tokensOf (c ∷ cs) = map wants c ++ (ended ∷ tokensOf cs)

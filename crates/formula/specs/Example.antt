@@ -1,4 +1,4 @@
--- The definitions run on circuit A: its pairs and numbers at T=3, as document 01 prints them, and its counts at T=6.
+-- The definitions run on circuit A: its pairs and numbers at T = 3, as rule X2 prints them, and its counts at T = 6.
 -- Interface: printed, runs.
 use mathlib.Core.Path.{_≡_, refl}
 use mathlib.Core.List.{List, [], _∷_}
@@ -7,7 +7,7 @@ use Rattle.netlist.specs.Netlist.{atZero}
 use Rattle.netlist.specs.Example.{describedA}
 use Rattle.settle.specs.Settling.{grow, topsOf}
 use Rattle.clauses.specs.Clauses.{flat}
-use Rattle.pairs.specs.Pairs.{asked, timesAt, pairList, placeOf, pairsFor}
+use Rattle.pairs.specs.Pairs.{asked, timesAt, pairList, pairPlace, pairsFor}
 use Rattle.formula.specs.Formula.{clauseOf, gateClauses, late, pairClauses, formula, pairVariable, formulaFor}
 use Rattle.formula.specs.Promise.{numbersFor, countsFor}
 
@@ -26,6 +26,6 @@ pub runs :
     × (numbersFor (atZero describedA) 3 ≡ printed)
     × (countsFor (atZero describedA) 6 ≡ record { variables = 5; pairs = 0; clauses = 9; numbers = 27 })
 unfolding
-    describedA grow topsOf flat asked timesAt pairList clauseOf gateClauses late pairClauses formula placeOf pairsFor
+    describedA grow topsOf flat asked timesAt pairList clauseOf gateClauses late pairClauses formula pairPlace pairsFor
     pairVariable formulaFor numbersFor countsFor printed
 runs = (refl, refl, refl)

@@ -1,4 +1,4 @@
--- The clauses for a target, in document 01's order, over any kind of variables: `node` gives a node's variable and
+-- The clauses for a target, in the order of rule F8, over any kind of variables: `node` gives a node's variable and
 -- `pair` a pair's. Then their numbers. Interface: all of it.
 use mathlib.Core.Bool.{Bool, true, false, not, cond}
 use mathlib.Core.List.{List, [], _∷_, _++_, map}
@@ -10,7 +10,7 @@ use Rattle.netlist.specs.declared.Kind.the-variants.{Simple, Parity, Mux}
 use Rattle.netlist.specs.Netlist.{Cell, Pin, nodes, nodeCount, Circuit}
 use Rattle.settle.specs.Settling.{topOf}
 use Rattle.clauses.specs.Clauses.{Literal}
-use Rattle.pairs.specs.Pairs.{timesAt, pairsFor, placeOf}
+use Rattle.pairs.specs.Pairs.{timesAt, pairsFor, pairPlace}
 
 -- a part of a clause: true outright, false outright, or a literal (the value that it wants, and its variable)
 pub data Part (X : Type 0) : Type 0 where
@@ -30,21 +30,21 @@ literals (sure ∷ ps) = literals ps
 literals (never ∷ ps) = literals ps
 literals (literal b x ∷ ps) = (b, x) ∷ literals ps
 
--- "A clause with a true part is left out; a false part is left out of its clause. Repeated literals stay."
+-- parts that are false outright are not written, and a clause with one that is true outright is not written at all
+-- (rule F14)
 unfoldable pub clauseOf : {X : Type 0} → List (Part X) → List (List (Bool × X))
 clauseOf parts = cond (any isSure parts) [] (literals parts ∷ [])
 
 -- ---- 1. each gate
 
 module _ {X : Type 0} (node : ℕ → X) where
-  -- "node n is b"
+  -- that node n is b
   abbrev pub is : ℕ → Bool → Bool × X
   is n b = (b, node n)
 
-  -- "Simple: for each pin, driver is not c, gate is k; then driver is c for every pin and gate is not k."
-  -- "XOR and XNOR: for pin values 00, 01, 10, 11, first differs, second differs, gate is the result."
-  -- "MUX with s, a, b, f: (s, -a, f), (s, a, -f), (-s, -b, f), (-s, b, -f)."
-  -- Other numbers of pins do not occur.
+  -- A simple gate: a clause of two literals for each pin, then one over all pins (rule F9). XOR and XNOR: a clause for
+  -- each way to set the two pins (rule F10). MUX: two clauses for each value of select (rule F11). Other numbers of
+  -- pins do not occur.
   unfoldable pub gateClauses : Kind → List Pin → ℕ → List (List (Bool × X))
   gateClauses (Simple c k) ps f =
       map (λ p. is (p .driver) (not c) ∷ is f k ∷ []) ps
@@ -70,18 +70,18 @@ module _ {X : Type 0} (node : ℕ → X) where
 -- ---- 2. each pair, and 3. some output is late
 
 module _ {X : Type 0} (I : ℕ) (top : ℕ → ℕ) (node : ℕ → X) (pair : ℕ → ℕ → X) where
-  -- "Node late at t": "true if t is 0 or less, false if t exceeds the node's top, otherwise it is a pair (node, t)
-  -- with a variable". An input is late up to its top, which is its arrival, and not beyond: it has no pair
+  -- A node is late at t (rule F2): true outright at 0, false outright above its top, otherwise open, the variable of
+  -- the pair. An input is late up to its top, which is its arrival, and not beyond: it has no pair
   unfoldable pub late : ℕ → ℕ → Part X
   late n t =
       cond (ltb n I) (cond (leb t (top n)) sure never)
       (cond (leb t 0) sure (cond (leb t (top n)) (literal true (pair n t)) never))
 
-  -- "driver late at t less its delay"; below 0 it is 0, which is true as well
+  -- the pin's driver is late at t less the pin's delay; a negative time is taken as 0 (rule F3)
   abbrev pub driverLate : ℕ → Pin → Part X
   driverLate t p = late (p .driver) (t - p .delay)
 
-  -- "For a simple gate then, for each pin: -p, driver late, driver is not c."
+  -- a simple gate's further clauses, one a pin: not p, or the driver late, or the driver not at c (rule F12)
   abbrev pub controlClauses : ℕ → Kind → List Pin → ℕ → List (List (Bool × X))
   controlClauses f (Simple c k) ps t =
       concatMap
@@ -89,7 +89,7 @@ module _ {X : Type 0} (I : ℕ) (top : ℕ → ℕ) (node : ℕ → X) (pair : �
   controlClauses f (Parity equal) ps t = []
   controlClauses f Mux ps t = []
 
-  -- "-p, or some driver late at t less its delay, drivers in pin order"
+  -- the clauses of a pair (rule F12): not p, or one of the drivers late, in pin order; then those of a simple gate
   unfoldable pub pairClauses : ℕ → Kind → List Pin → ℕ → List (List (Bool × X))
   pairClauses f k ps t =
       clauseOf (literal false (pair f t) ∷ map (driverLate t) ps) ++ controlClauses f k ps t
@@ -103,13 +103,13 @@ module _ {X : Type 0} (I : ℕ) (top : ℕ → ℕ) (node : ℕ → X) (pair : �
 
 -- ---- the variables' numbers
 
--- "A node's variable is its number plus 1."
+-- node n has n + 1 (rule F5)
 abbrev pub nodeVariable : ℕ → ℕ
 nodeVariable n = suc n
 
--- "Pairs take N+1, N+2 and on, by node rising, then t rising."
+-- the pairs have the numbers after N, in their order (rule F5)
 unfoldable pub pairVariable : Circuit → ℕ → ℕ → ℕ → ℕ
-pairVariable circuit target f t = suc (nodeCount (circuit .net) + placeOf f t (pairsFor circuit target))
+pairVariable circuit target f t = suc (nodeCount (circuit .net) + pairPlace f t (pairsFor circuit target))
 
 -- the formula for a target
 unfoldable pub formulaFor : Circuit → ℕ → List (List Literal)

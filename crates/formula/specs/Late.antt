@@ -12,7 +12,7 @@ use Rattle.netlist.specs.declared.Shape.{Shape}
 use Rattle.netlist.specs.Netlist.{Cell, Pin}
 use Rattle.netlist.specs.File.{firstAt, countAt, driverAt, delayAt, outputAt, cellAt, netlistAt}
 use Rattle.clauses.specs.Codes.{literalCode}
-use Rattle.pairs.specs.Pairs.{placeOf}
+use Rattle.pairs.specs.Pairs.{pairPlace}
 use Rattle.pairs.specs.Table.{pairsIn, pairAt, Sorted}
 use Rattle.pairs.specs.Promise.{Findable, Begins}
 use Rattle.formula.specs.declared.Side.{Side}
@@ -29,7 +29,7 @@ partCode sure = 1
 partCode never = 0
 partCode (literal b x) = literalCode (b, x)
 
--- "a false part is left out of its clause"
+-- a part that is false outright is not written
 abbrev pub partRun : Part ℕ → List Token
 partRun sure = []
 partRun never = []
@@ -59,9 +59,9 @@ topIn tops n = getD tops n 0
 
 -- a pair's variable, by its place in the table
 unfoldable pub variableIn : Lent → ℕ → ℕ → ℕ
-variableIn l f t = suc (nodesIn l + placeOf f t (pairsIn (l .table)))
+variableIn l f t = suc (nodesIn l + pairPlace f t (pairsIn (l .table)))
 
--- "node late at t"
+-- that a node is late at t
 abbrev pub lateIn : Lent → ℕ → ℕ → Part ℕ
 lateIn l = late (l .shape .inputs) (topIn (l .tops)) nodeVariable (variableIn l)
 
@@ -82,7 +82,7 @@ abbrev pub timeAt : List ℕ → Shape → Side → ℕ → ℕ → ℕ
 timeAt file shape Pins t pin = t - delayAt file shape pin
 timeAt file shape Outputs t position = t
 
--- "driver late at t less its delay", "output late at t"
+-- that a pin's driver is late at t less the pin's delay, "output late at t"
 abbrev pub lateAt : List ℕ → Lent → Side → ℕ → ℕ → Part ℕ
 lateAt file l side t entry = lateIn l (nodeAt file (l .shape) side entry) (timeAt file (l .shape) side t entry)
 
@@ -97,12 +97,12 @@ askedAt file l side t entry =
 abbrev pub pinLate : Lent → ℕ → Pin → Part ℕ
 pinLate l t p = lateIn l (p .driver) (t - p .delay)
 
--- "-p, driver late, driver is not c", of one pin; p is the pair's variable
+-- one pin's further clause of a simple gate (rule F12), by the pair's variable
 abbrev pub pinControl : Lent → Bool → ℕ → ℕ → Pin → List Token
 pinControl l c pair t p =
     tokensOf (clauseOf (literal false pair ∷ pinLate l t p ∷ literal (not c) (suc (p .driver)) ∷ []))
 
--- "-p, or some driver late at t less its delay"
+-- the first clause of a pair (rule F12)
 abbrev pub driversLate : Lent → ℕ → List Pin → ℕ → List Token
 driversLate l pair pins t = tokensOf (clauseOf (literal false pair ∷ map (pinLate l t) pins))
 
@@ -126,7 +126,7 @@ runOf file l x =
 abbrev pub pairRun : List ℕ → Lent → ℕ → List Token
 pairRun file l k = runOf file l (pairAt (pairsIn (l .table)) k)
 
--- "some output is late at T, outputs in order"
+-- the clause of the outputs (rule F13)
 abbrev pub outputsLate : List ℕ → Lent → ℕ → List Token
 outputsLate file l target = tokensOf (clauseOf (map (λ o. lateIn l o target) (netlistAt file (l .shape) .outputs)))
 
@@ -166,7 +166,7 @@ pub record Served (file : List ℕ) (l : Lent) (side : Side) (first count t : �
 pub record Stands (file : List ℕ) (l : Lent) (k node t : ℕ) : Type 0 where
   pub low : l .shape .inputs ≤ node
   pub high : node < nodesIn l
-  pub own : placeOf node t (pairsIn (l .table)) ≡ k
+  pub own : pairPlace node t (pairsIn (l .table)) ≡ k
   pub drivers : Served file l Pins (firstAt file (l .shape) (node - l .shape .inputs))
       (countAt file (l .shape) (node - l .shape .inputs)) t
 

@@ -1,9 +1,10 @@
--- What a reader must believe of the formula: document 01's section "The formula for target T". Interface: Formula (the
--- clauses), Promise (build), Example and Cases (circuit A). The pairs are those of crate pairs. Emission and Late serve
--- the code.
+-- What a reader must believe of the formula: section F of the rules. Interface: Formula (the clauses), Promise (build),
+-- Example and Cases (circuit A), Edges (each kind, each order of checks). The pairs are those of crate pairs. Emission
+-- and Late serve the code.
 pub mod Formula
 pub mod Promise
 pub mod Emission
 pub mod Late
 pub mod Example
 pub mod Cases
+pub mod Edges

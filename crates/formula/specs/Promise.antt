@@ -2,7 +2,7 @@
 -- Interface: building, Meets.
 use mathlib.Core.Path.{_≡_}
 use mathlib.Core.List.{List, [], _∷_, _++_}
-use Prim.Native.Nat.{ℕ, _+_, _-_, _*_, _/_, min}
+use Prim.Native.Nat.{ℕ, _+_, _-_, _*_}
 use lib.Dec.{ltb}
 use lib.IntN.{ℤ, pos}
 use lib.ListN.{length, replicate}
@@ -16,6 +16,7 @@ use Rattle.formula.specs.declared.Built.{Built}
 use Rattle.formula.specs.declared.Built.the-variants.{Formula, Refused}
 use Rattle.formula.specs.declared.Counts.{Counts}
 use Rattle.pairs.specs.Pairs.{flatPairs, pairsFor}
+use Rattle.pairs.specs.Promise.{tableHolds}
 use Rattle.formula.specs.Formula.{formulaFor}
 
 -- the answer, and the whole content of each lent slice
@@ -30,7 +31,7 @@ pub record Meets (promised : Building) (answer : Built) (pairs : List ℕ) (form
   pub pairs-are : pairs ≡ promised .pairs
   pub formula-is : formula ≡ promised .formula
 
--- "Any refusal zeroes all slices lent for writing."
+-- after a refusal every lent slice holds zeros (rule C7)
 abbrev pub refused : ℕ → ℕ → Refusal → Building
 refused pairsRoom formulaRoom refusal =
     record { answer = Refused refusal; pairs = replicate pairsRoom 0; formula = replicate formulaRoom (pos 0) }
@@ -49,11 +50,7 @@ countsFor circuit target =
       numbers = length (numbersFor circuit target);
     }
 
--- how many pairs a lent table holds: two numbers a pair, and at most 65,536
-abbrev pub tableHolds : ℕ → ℕ
-tableHolds pairsRoom = min (pairsRoom / 2) 65536
-
--- pairs and formula, and zeros in "whatever part wasn't needed"
+-- pairs and formula, and zeros in all of the rest (rule C8)
 unfoldable pub built : Circuit → ℕ → ℕ → ℕ → Building
 built circuit target pairsRoom formulaRoom =
     record {
@@ -64,7 +61,7 @@ built circuit target pairsRoom formulaRoom =
       formula = numbersFor circuit target ++ replicate (formulaRoom - length (numbersFor circuit target)) (pos 0);
     }
 
--- 10 PAIRS "more pairs than the table holds, or than 65,536", then 9 ROOM for the formula
+-- 10 PAIRS: the pairs don't fit the table; then 9 ROOM for the formula
 unfoldable pub buildingRows : Circuit → ℕ → ℕ → ℕ → List Row
 buildingRows circuit target pairsRoom formulaRoom =
     (ltb (tableHolds pairsRoom) (length (pairsFor circuit target)), Pairs)

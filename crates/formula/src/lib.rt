@@ -233,7 +233,7 @@ fn put_shares(
 
 // ---- who is late
 
-// "t less its delay"; below 0 it is 0.
+// A time less a delay; what would be negative is 0 (rule F3).
 fn less(t: usize, delay: usize) -> usize
     ensures { λ r. ⌜ r ≡ t - delay ⌝ }
 {
@@ -243,7 +243,7 @@ fn less(t: usize, delay: usize) -> usize
     0
 }
 
-// "Node late at t" as a code: 1 if true, 0 if false, else the code of its pair's literal.
+// That a node is late at t, as a code: 1 if true outright, 0 if false outright, else the code of its pair's literal.
 fn late_code(
     shape: Shape,
     tops: &[u32],
@@ -426,8 +426,8 @@ fn chosen_clauses(
     clause_of_nodes(s, false, b, !d, f, !g, formula, three)
 }
 
-// A simple gate: "for each pin, driver is not c, gate is k; then driver is c for every pin and gate is not k". No time is
-// asked for: the drivers are read at 0.
+// A simple gate: a clause of two literals for each pin, then one over all pins (rule F9). No time is asked for: the
+// drivers are read at 0.
 fn simple_clauses(
     file: &[u8],
     shape: Shape,

@@ -1,4 +1,4 @@
--- "All numbers little endian": the number in the bytes from a place on. Interface: both definitions.
+-- The lowest byte comes first (rule N1): the number in the bytes from a place on. Interface: both definitions.
 use Prim.Native.Nat.{ℕ, _+_, _*_}
 use mathlib.Core.List.{List}
 use lib.ListN.{getD}

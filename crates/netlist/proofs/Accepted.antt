@@ -92,7 +92,7 @@ module _ {file : List ℕ} {shape : Shape} (p : Passed file shape) where
       && leb (countAt file shape gate) (most (kindAt file shape gate)))
       (eqb (firstAt file shape gate) (pinsBefore file shape gate)) (gate-tests gate h)
 
-  -- "number of its first pin, which equals the sum of the pin counts before it"
+  -- a gate's first pin is the total of the pin counts in front of it (rule N5)
   first-right : (gate : ℕ) → gate < shape .gates → firstAt file shape gate ≡ pinsBefore file shape gate
   first-right gate h =
       eqb-true (firstAt file shape gate) (pinsBefore file shape gate)
@@ -286,12 +286,7 @@ holds file shape e =
     record {
       opened = e;
       valid = net-valid p;
-      inputs-some = r .inputs-some;
-      inputs-few = r .inputs-few;
-      gates-few = r .gates-few;
-      pins-few = r .pins-few;
-      outputs-some = r .outputs-some;
-      outputs-few = r .outputs-few;
+      counts = r;
       tables = tables (p .pins .gates .tables);
       pins-within = pins-inside p;
       drivers-below = driver-below p;

@@ -137,7 +137,7 @@ module _ (file : List ℕ) (shape : Shape) where
       ∙ map-upFrom-at (cellAt file shape) 0 (shape .gates) i d h
       ∙ ap (cellAt file shape) e
 
-  -- "N = I+G"
+  -- N is I + G
   pub node-count : nodeCount (netlistAt file shape) ≡ shape .inputs + shape .gates
   node-count = ap₂ (λ (a b : ℕ). a + b) net-inputs gates-length
 

@@ -262,14 +262,14 @@ output-wrong {file} {shape} {place} p e h =
     ∙ at-seven p
 
 -- all rows pass
-pub accepted : {file : List ℕ} {shape : Shape} {place : ℕ} → Pinned file shape →
+pub all-passed : {file : List ℕ} {shape : Shape} {place : ℕ} → Pinned file shape →
     place ≡ outputPlace file shape → shape .outputs ≤ place → Accepted shape ≡ openOf file
-accepted {file} {shape} {place} p e h =
+all-passed {file} {shape} {place} p e h =
     row-passes shape (Output (outputPlace file shape)) []
     (le-ltb (outputPlace file shape) (shape .outputs) (omega arith))
     ∙ at-seven p
 
--- ---- back from an accepted file
+-- ---- back from an all-passed file
 
 pub not-back : (a : Bool) → not a ≡ false → a ≡ true
 not-back true e = refl
@@ -288,7 +288,7 @@ pub record Passed (file : List ℕ) (shape : Shape) : Type 0 where
   pub pins : Pinned file shape
   pub outputs : shape .outputs ≤ outputPlace file shape
 
--- an accepted file's rows are passed, and its shape is the trailer's
+-- an all-passed file's rows are passed, and its shape is the trailer's
 pub accepted-rows : (file : List ℕ) {shape : Shape} → openOf file ≡ Accepted shape →
     (checked (netlistRows file) ≡ Passes) × (shapeOf file ≡ shape)
 unfolding openOf

@@ -56,14 +56,14 @@ module _ (net : Netlist) (v : T (valid net)) where
   unfolding valid
   valid-ends = and-right (counts net && all gateFits (nodes net)) (ends net) v
 
-  -- "I is 1..64"
+  -- the range of I
   pub valid-inputs-few : net .inputs ≤ 64
   valid-inputs-few =
       leb→le (net .inputs) 64
       (and-right (leb 1 (net .inputs)) (leb (net .inputs) 64)
       (and-left (leb 1 (net .inputs) && leb (net .inputs) 64) (leb (length (net .gates)) 448) valid-counts))
 
-  -- "G 0..448"
+  -- the range of G
   pub valid-gates-few : length (net .gates) ≤ 448
   valid-gates-few =
       leb→le (length (net .gates)) 448
@@ -105,13 +105,13 @@ fits-takes x t = and-left (takes (x .1 .kind) (length (x .1 .pins))) (all (pinFi
 pub fits-pins : (x : ℕ × Cell) → T (gateFits x) → T (all (pinFits (x .0)) (x .1 .pins))
 fits-pins x t = and-right (takes (x .1 .kind) (length (x .1 .pins))) (all (pinFits (x .0)) (x .1 .pins)) t
 
--- "A pin's node is smaller than its gate's node"
+-- what drives a gate lies below it
 pub fits-below : (x : ℕ × Cell) → T (gateFits x) → (p : Pin) → List·Memᴰ p (x .1 .pins) → p .driver < x .0
 fits-below x t p m =
     ltb→lt (p .driver) (x .0)
     (and-left (ltb (p .driver) (x .0)) (leb (p .delay) 999) (all-at (pinFits (x .0)) (x .1 .pins) (fits-pins x t) p m))
 
--- "delay 0..999"
+-- a delay is 999 or less
 pub fits-small : (x : ℕ × Cell) → T (gateFits x) → (p : Pin) → List·Memᴰ p (x .1 .pins) → p .delay ≤ 999
 fits-small x t p m =
     leb→le (p .delay) 999

@@ -1,5 +1,5 @@
--- Document 01's circuit A: its 48 bytes, and that they decode to the circuit that the page describes. Interface:
--- circuitA, describedA, decodes.
+-- Circuit A (rule X1): its 48 bytes, and that they decode to the circuit that the rule describes. Interface: circuitA,
+-- describedA, decodes.
 use mathlib.Core.Path.{_≡_, refl}
 use mathlib.Core.Bool.{true, false}
 use mathlib.Core.List.{List, [], _∷_}
@@ -37,7 +37,7 @@ circuitA =
 abbrev pin : ℕ → ℕ → Pin
 pin driver delay = record { driver = driver; delay = delay }
 
--- "Node 2 = BUF(a, delay 3). Node 3 = AND(node 2, b), node 4 = OR(node 3, b), delays 1. Output 4."
+-- node 2 a BUF of a with delay 3, node 3 an AND of node 2 and b, node 4 an OR of node 3 and b, their pins with delay 1
 unfoldable pub describedA : Netlist
 describedA =
     record {

@@ -1,4 +1,5 @@
--- "The netlist file": where its numbers lie, and the netlist that they say. Interface: all of it.
+-- The netlist file (section N of the rules): where its numbers lie, and the circuit that they stand for. Interface: all
+-- of it.
 use mathlib.Core.List.{List, map}
 use Prim.Native.Nat.{ℕ, _+_, _-_, _*_}
 use lib.ListN.{length, getD}
@@ -9,9 +10,9 @@ use Rattle.netlist.specs.declared.Gate.{Gate}
 use Rattle.netlist.specs.Netlist.{Netlist, Circuit, Cell, Pin, atZero}
 use Rattle.netlist.specs.Kinds.{kindOf}
 
--- ---- the trailer: back (4 bytes), inputs I, gates G, pins P, outputs Q, version (2 bytes each)
+-- ---- the trailer (rule N2): back in four bytes, then I, G, P, Q and the version in two each
 
--- "a trailer of 14 bytes"
+-- where the trailer begins, the last 14 bytes
 abbrev pub trailer : List ℕ → ℕ
 trailer file = length file - 14
 
@@ -33,7 +34,7 @@ outputs file = twoBytes file (trailer file + 10)
 abbrev pub version : List ℕ → ℕ
 version file = twoBytes file (trailer file + 12)
 
--- "Back is 4G+4P+2Q, the bytes from the first table to the trailer"
+-- the total of the three tables (rule N4), 4G + 4P + 2Q
 unfoldable pub tableBytes : List ℕ → ℕ
 tableBytes file = gates file * 4 + pins file * 4 + outputs file * 2
 
@@ -50,7 +51,7 @@ shapeOf file =
 
 -- ---- the tables, of a file whose tables begin at `tables`
 
--- "gates, 4 bytes each: kind, pin count (1 byte each), number of its first pin (2 bytes)"
+-- a gate's entry (rule N5): its kind, how many pins it has, and in two bytes the first of them
 abbrev pub kindAt : List ℕ → Shape → ℕ → ℕ
 kindAt file shape gate = getD file (shape .tables + gate * 4) 0
 
@@ -60,20 +61,20 @@ countAt file shape gate = getD file (shape .tables + gate * 4 + 1) 0
 abbrev pub firstAt : List ℕ → Shape → ℕ → ℕ
 firstAt file shape gate = twoBytes file (shape .tables + gate * 4 + 2)
 
--- "pins, 4 bytes: driving node (2 bytes), delay 0..999 (2 bytes)"
+-- a pin's entry (rule N6): the node that drives it, and its delay
 abbrev pub driverAt : List ℕ → Shape → ℕ → ℕ
 driverAt file shape pin = twoBytes file (shape .tables + shape .gates * 4 + pin * 4)
 
 abbrev pub delayAt : List ℕ → Shape → ℕ → ℕ
 delayAt file shape pin = twoBytes file (shape .tables + shape .gates * 4 + pin * 4 + 2)
 
--- "outputs, 2 bytes: node numbers"
+-- an output's entry (rule N7): a node
 abbrev pub outputAt : List ℕ → Shape → ℕ → ℕ
 outputAt file shape position = twoBytes file (shape .tables + shape .gates * 4 + shape .pins * 4 + position * 2)
 
 -- ---- the netlist that they say
 
--- "each gate is one record whose kind carries its own data"
+-- a gate as one record, its kind with what this kind needs (rule K5)
 unfoldable pub gateAt : List ℕ → Shape → ℕ → Gate
 gateAt file shape gate =
     record { kind = kindOf (kindAt file shape gate); first = firstAt file shape gate; count = countAt file shape gate }

@@ -20,7 +20,7 @@ use Rattle.netlist.specs.File.{
 }
 use Rattle.netlist.specs.Open.{countWrong, backWrong, openOf}
 
--- "I is 1..64, G 0..448, P 0..2048, Q 1..64"
+-- each count is in its range (rule N3)
 pub record InRange (shape : Shape) : Type 0 where
   pub inputs-some : 1 ≤ shape .inputs
   pub inputs-few : shape .inputs ≤ 64
@@ -29,7 +29,7 @@ pub record InRange (shape : Shape) : Type 0 where
   pub outputs-some : 1 ≤ shape .outputs
   pub outputs-few : shape .outputs ≤ 64
 
--- "Before it lie, in order: gates, pins, outputs": the tables and the trailer fill the file from `tables` on
+-- the tables and the trailer fill the file from `tables` on (rule N4)
 pub record Tables (file : List ℕ) (shape : Shape) : Type 0 where
   pub room : shape .tables + shape .gates * 4 + shape .pins * 4 + shape .outputs * 2 + 14 ≡ length file
 
@@ -45,12 +45,7 @@ pub record Framed (file : List ℕ) (shape : Shape) : Type 0 where
 pub record Holds (file : List ℕ) (shape : Shape) : Type 0 where
   pub opened : openOf file ≡ Accepted shape
   pub valid : T (valid (netlistAt file shape))
-  pub inputs-some : 1 ≤ shape .inputs
-  pub inputs-few : shape .inputs ≤ 64
-  pub gates-few : shape .gates ≤ 448
-  pub pins-few : shape .pins ≤ 2048
-  pub outputs-some : 1 ≤ shape .outputs
-  pub outputs-few : shape .outputs ≤ 64
+  pub counts : InRange shape
   pub tables : Tables file shape
   pub pins-within : (gate : ℕ) → gate < shape .gates → firstAt file shape gate + countAt file shape gate ≤ shape .pins
   pub drivers-below : (gate pin : ℕ) → gate < shape .gates → firstAt file shape gate ≤ pin →

@@ -18,7 +18,7 @@ pub record Cell : Type 0 where
   pub kind : Kind
   pub pins : List Pin
 
--- "Nodes are numbered from 0, inputs first, then gates"; an output is a node's number
+-- input i is node i, gate g is node I + g (rule N8); an output is a node
 pub record Netlist : Type 0 where
   pub inputs : ℕ
   pub gates : List Cell
@@ -33,7 +33,7 @@ pub record Circuit : Type 0 where
 abbrev pub atZero : Netlist → Circuit
 atZero net = record { net = net; arrivals = replicate (net .inputs) 0 }
 
--- "N = I+G"
+-- N, the nodes
 abbrev pub nodeCount : Netlist → ℕ
 nodeCount net = net .inputs + length (net .gates)
 
@@ -47,7 +47,7 @@ takes (Simple c k) n = leb 1 n && leb n 8
 takes (Parity equal) n = eqb n 2
 takes Mux n = eqb n 3
 
--- "A pin's node is smaller than its gate's node"; "delay 0..999"
+-- what drives a gate lies below it (rule N9), and a delay is 999 or less (rule N6)
 abbrev pub pinFits : ℕ → Pin → Bool
 pinFits node pin = ltb (pin .driver) node && leb (pin .delay) 999
 
@@ -55,7 +55,7 @@ pinFits node pin = ltb (pin .driver) node && leb (pin .delay) 999
 abbrev pub gateFits : ℕ × Cell → Bool
 gateFits x = takes (x .1 .kind) (length (x .1 .pins)) && all (pinFits (x .0)) (x .1 .pins)
 
--- "node numbers, strictly rising", each at least `from`
+-- each output is larger than the one in front of it (rule N7), and at least `from`
 unfoldable pub rising : ℕ → List ℕ → Bool
 rising from [] = true
 rising from (x ∷ xs) = leb from x && rising (suc x) xs

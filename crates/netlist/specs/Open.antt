@@ -1,5 +1,5 @@
--- Refusals 1 to 7, row by row: the table's "when" and "place" columns, "in table order: all gates before all pins
--- before outputs". Interface: netlistRows, openOf, rowsOver, callOver.
+-- Rows 1 to 7 of the table of refusals (rule T1), in the sequence of rules C3 and C4: no pin until all gates are right,
+-- no output until all pins are. Interface: netlistRows, openOf, rowsOver, callOver.
 use mathlib.Core.Bool.{Bool, not, _&&_, _||_, cond}
 use mathlib.Core.List.{List, [], _∷_, _++_, map}
 use Prim.Native.Nat.{ℕ, zero, suc, _+_, _-_}
@@ -38,14 +38,14 @@ unfoldable pub firstWrong : {A : Type 0} → (A → Bool) → List A → ℕ
 firstWrong wrong [] = 0
 firstWrong wrong (x ∷ xs) = cond (wrong x) 0 (suc (firstWrong wrong xs))
 
--- 3 COUNT: "I, G, P or Q outside its range"; I is 1..64, G 0..448, P 0..2048, Q 1..64; 4 where each is within
+-- 3 COUNT: the lowest count that leaves its range (rule N3), 0 for I to 3 for Q; 4 where none does
 unfoldable pub countWrong : Shape → ℕ
 countWrong shape =
     cond (leb 1 (shape .inputs) && leb (shape .inputs) 64)
     (cond (leb (shape .gates) 448)
     (cond (leb (shape .pins) 2048) (cond (leb 1 (shape .outputs) && leb (shape .outputs) 64) 4 3) 2) 1) 0
 
--- 4 BACK: "back isn't 4G+4P+2Q or exceeds length less 14"
+-- 4 BACK: back is not the tables' total (rule N4), or the file is too short for it
 unfoldable pub backWrong : List ℕ → Bool
 backWrong file = not (eqb (back file) (tableBytes file)) || ltb (trailer file) (back file)
 
@@ -54,7 +54,7 @@ unfoldable pub pinsBefore : List ℕ → Shape → ℕ → ℕ
 pinsBefore file shape zero = 0
 pinsBefore file shape (suc n) = pinsBefore file shape n + countAt file shape n
 
--- 5 GATE: "unknown kind, pin count or first pin wrong"
+-- 5 GATE: no such kind, no such pin count for it, or another first pin than the total so far (rules K1 and N5)
 unfoldable pub gateWrong : List ℕ → Shape → ℕ → Bool
 gateWrong file shape gate =
     not (leb (fewest (kindAt file shape gate)) (countAt file shape gate)
@@ -65,7 +65,7 @@ gateWrong file shape gate =
 unfoldable pub gatePlace : List ℕ → Shape → ℕ
 gatePlace file shape = firstWrong (gateWrong file shape) (upFrom 0 (shape .gates))
 
--- "final sum isn't P", at place G
+-- then, the total of the pin counts is not P: place G
 unfoldable pub sumWrong : List ℕ → Shape → Bool
 sumWrong file shape = not (eqb (pinsBefore file shape (shape .gates)) (shape .pins))
 
@@ -74,7 +74,7 @@ unfoldable pub pinsAt : List ℕ → Shape → ℕ → List (ℕ × ℕ)
 pinsAt file shape gate =
     map (λ pin. (shape .inputs + gate, pin)) (upFrom (pinsBefore file shape gate) (countAt file shape gate))
 
--- 6 PIN: "driver not below its gate, or delay over 999"
+-- 6 PIN: a driver at or above the pin's gate, or a delay of 1,000 or more
 unfoldable pub pinWrong : List ℕ → Shape → ℕ × ℕ → Bool
 pinWrong file shape x = not (ltb (driverAt file shape (x .1)) (x .0)) || ltb 999 (delayAt file shape (x .1))
 
@@ -86,7 +86,7 @@ rightPins file shape gate = firstWrong (pinWrong file shape) (pinsAt file shape 
 unfoldable pub pinPlace : List ℕ → Shape → ℕ
 pinPlace file shape = firstWrong (pinWrong file shape) (concatMap (pinsAt file shape) (upFrom 0 (shape .gates)))
 
--- 7 OUTPUT: "not rising, or N or more"
+-- 7 OUTPUT: a node at or below the previous output, or no node at all
 unfoldable pub outputWrong : List ℕ → Shape → ℕ → Bool
 outputWrong file shape position =
     (ltb 0 position && leb (outputAt file shape position) (outputAt file shape (position - 1)))

@@ -1,4 +1,4 @@
-// The netlist file: accepted, with its shape, or refused with document 01's number and place; and the reads of an
+// The netlist file: accepted, with its shape, or refused with the table's number and place; and the reads of an
 // accepted file. Assumes nothing.
 use refusal::Refusal;
 ghost use mathlib.Core.Path.{_≡_};
@@ -55,7 +55,7 @@ fn digit(column: usize, kind: usize) -> usize
 }
 
 // A row of the table of kinds: the fewest pins, the most, and what the gate does.
-struct Row(usize, usize, Kind);
+struct Allowed(usize, usize, Kind);
 
 // What a gate of a kind does, by the kind's c and k.
 fn record_of(kind: usize, c: bool, k: bool) -> Kind
@@ -74,19 +74,19 @@ fn record_of(kind: usize, c: bool, k: bool) -> Kind
 }
 
 // A kind's row; no pin count is right for a number that names no kind.
-fn row_of(kind: usize) -> Row
+fn row_of(kind: usize) -> Allowed
     ensures { λ r. ⌜ (r .0 ≡ fewest kind) × (r .1 ≡ most kind) × (r .2 ≡ kindOf kind) ⌝ }
 {
     if kind < 10 {
         let c = digit(KINDS[2], kind) == 1;
         let k = digit(KINDS[3], kind) == 1;
-        return Row(
+        return Allowed(
             digit(KINDS[0], kind),
             digit(KINDS[1], kind),
             record_of(kind, c, k),
         );
     }
-    Row(1, 0, Kind::Mux)
+    Allowed(1, 0, Kind::Mux)
 }
 
 // The record of a kind's number.

@@ -13,7 +13,7 @@ use Rattle.basics.proofs.Truth.{and-left, and-right, and-both, holds}
 use Rattle.netlist.specs.Netlist.{Cell, Pin, nodes, nodeCount, gateFits, valid, Circuit}
 use Rattle.netlist.proofs.Valid.{valid-gates, valid-outputs}
 use Rattle.settle.specs.Settling.{topOf}
-use Rattle.pairs.specs.Pairs.{output, driver, timesAt, pairList, pairsFor, placeOf}
+use Rattle.pairs.specs.Pairs.{output, driver, timesAt, pairList, pairsFor, pairPlace}
 use Rattle.pairs.proofs.Least.{least-set, is-pair, pair-facts, asked-is-pair, member-is-pair, asked-below}
 use Rattle.pairs.proofs.Unique.{time-asked, asked-time, pairs-asked, asked-pairs}
 
@@ -69,31 +69,31 @@ pair-same f t x u =
     (eqb→eq (x .1) t (and-right (eqb (x .0) f) (eqb (x .1) t) u))
 
 -- a member's place is within the list
-pub place-below : (f t : ℕ) (l : List (ℕ × ℕ)) → List·Memᴰ (f, t) l → placeOf f t l < length l
-unfolding placeOf
+pub place-below : (f t : ℕ) (l : List (ℕ × ℕ)) → List·Memᴰ (f, t) l → pairPlace f t l < length l
+unfolding pairPlace
 place-below f t (x ∷ l) (List·Memᴰ·head e) = go (eqb (x .0) f && eqb (x .1) t) (same-pair f t x e)
   where
-    go : (b : Bool) → T b → cond b 0 (suc (placeOf f t l)) < length (x ∷ l)
+    go : (b : Bool) → T b → cond b 0 (suc (pairPlace f t l)) < length (x ∷ l)
     go true u = omega arith
     go false u = absurd u
 place-below f t (x ∷ l) (List·Memᴰ·tail m) = go (eqb (x .0) f && eqb (x .1) t) (place-below f t l m)
   where
-    go : (b : Bool) → placeOf f t l < length l → cond b 0 (suc (placeOf f t l)) < length (x ∷ l)
+    go : (b : Bool) → pairPlace f t l < length l → cond b 0 (suc (pairPlace f t l)) < length (x ∷ l)
     go true u = omega arith
     go false u = omega arith
 
 -- and the member stands there
-pub place-at : (f t : ℕ) (l : List (ℕ × ℕ)) (d : ℕ × ℕ) → List·Memᴰ (f, t) l → getD l (placeOf f t l) d ≡ (f, t)
-unfolding placeOf
+pub place-at : (f t : ℕ) (l : List (ℕ × ℕ)) (d : ℕ × ℕ) → List·Memᴰ (f, t) l → getD l (pairPlace f t l) d ≡ (f, t)
+unfolding pairPlace
 place-at f t (x ∷ l) d (List·Memᴰ·head e) = go (eqb (x .0) f && eqb (x .1) t) (same-pair f t x e)
   where
-    go : (b : Bool) → T b → getD (x ∷ l) (cond b 0 (suc (placeOf f t l))) d ≡ (f, t)
+    go : (b : Bool) → T b → getD (x ∷ l) (cond b 0 (suc (pairPlace f t l))) d ≡ (f, t)
     go true u = sym e
     go false u = absurd u
 place-at f t (x ∷ l) d (List·Memᴰ·tail m) = go (eqb (x .0) f && eqb (x .1) t) refl (place-at f t l d m)
   where
-    go : (b : Bool) → (eqb (x .0) f && eqb (x .1) t) ≡ b → getD l (placeOf f t l) d ≡ (f, t) →
-        getD (x ∷ l) (cond b 0 (suc (placeOf f t l))) d ≡ (f, t)
+    go : (b : Bool) → (eqb (x .0) f && eqb (x .1) t) ≡ b → getD l (pairPlace f t l) d ≡ (f, t) →
+        getD (x ∷ l) (cond b 0 (suc (pairPlace f t l))) d ≡ (f, t)
     go true e u = pair-same f t x (holds e)
     go false e u = u
 
@@ -122,14 +122,14 @@ module _ (circuit : Circuit) (ok : T (valid (circuit .net))) (target : ℕ) wher
   pub placed-for : (f t : ℕ) →
       List·Memᴰ t
       (timesAt (circuit .net .inputs) (topOf circuit) (circuit .net .outputs) target (circuit .net .gates) f) →
-      placeOf f t (pairsFor circuit target) < length (pairsFor circuit target)
+      pairPlace f t (pairsFor circuit target) < length (pairsFor circuit target)
   placed-for f t m = place-below f t (pairsFor circuit target) (listed-for f t m)
 
   -- that is its own
   pub place-for : (f t : ℕ) →
       List·Memᴰ t
       (timesAt (circuit .net .inputs) (topOf circuit) (circuit .net .outputs) target (circuit .net .gates) f) →
-      getD (pairsFor circuit target) (placeOf f t (pairsFor circuit target)) (0, 0) ≡ (f, t)
+      getD (pairsFor circuit target) (pairPlace f t (pairsFor circuit target)) (0, 0) ≡ (f, t)
   place-for f t m = place-at f t (pairsFor circuit target) (0, 0) (listed-for f t m)
 
   -- a pair of the list: its node is a gate's, its time is 1 to the node's top

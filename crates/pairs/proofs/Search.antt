@@ -10,7 +10,7 @@ use native.Mathlib.Omega.{arith}
 use native.Mathlib.Decide.{decLt, ℕ-discrete}
 use lib.ListN.{length, getD, set, take, length-take, List·getD-eq-default}
 use lib.Seq.{getD-set-same, getD-set-other}
-use Rattle.pairs.specs.Pairs.{placeOf}
+use Rattle.pairs.specs.Pairs.{pairPlace}
 use Rattle.pairs.specs.Rising.{Before, Rising}
 use Rattle.pairs.specs.Table.{pairsIn, pairAt, keyOf, Sorted, Searching, Precede}
 use Rattle.pairs.specs.Promise.{Lists, Findable, Bounds, Begins}
@@ -222,9 +222,9 @@ first-early {table} {count} {node} {time} {starts} w b =
 -- the search for a listed pair's key ends at the pair's place, whatever list of pairs the table is taken for
 pub place-found : {table : List ℕ} {count node time : ℕ} (r : ℕ) → Findable table count node time →
     Precede (pairsIn (take (count * 2) table)) (node * 4294967296 + time) r →
-    (pairs : List (ℕ × ℕ)) → Lists table count pairs → r ≡ placeOf node time pairs
+    (pairs : List (ℕ × ℕ)) → Lists table count pairs → r ≡ pairPlace node time pairs
 place-found {table} {count} {node} {time} r w p pairs v =
     let same : w .pairs ≡ pairs = sym (lists-in (w .lists)) ∙ lists-in v in
     let m : List·Memᴰ (node, time) pairs = subst (λ (l : List (ℕ × ℕ)). List·Memᴰ (node, time) l) same (w .here) in
-    found-at node time r (placeOf node time pairs) (rising-sorted pairs (v .rising) (v .times-small))
+    found-at node time r (pairPlace node time pairs) (rising-sorted pairs (v .rising) (v .times-small))
     (rw (lists-in v) at p) (place-below node time pairs m) (place-at node time pairs (0, 0) m)

@@ -19,7 +19,7 @@ use Rattle.pairs.specs.declared.Listed.{Listed}
 use Rattle.pairs.specs.declared.Listed.the-variants.{Count, TooMany}
 use Rattle.pairs.specs.Pairs.{flatPairs, pairsFor}
 use Rattle.pairs.specs.Table.{Kept}
-use Rattle.pairs.specs.Promise.{pairsAt, Held, Lists}
+use Rattle.pairs.specs.Promise.{pairsAt, Held, Lists, tableHolds}
 use Rattle.pairs.proofs.Rising.{pairs-rising}
 use Rattle.pairs.proofs.Closed.{pair-for}
 use Rattle.pairs.proofs.Flat.{flat-length}
@@ -35,18 +35,18 @@ kept-full : (l : List (ℕ × ℕ)) (room : ℕ) (t : List ℕ) (r : Filled) →
 kept-full l room t r h e = rw e at h
 
 pub held-count : (l : List (ℕ × ℕ)) (room : ℕ) (t : List ℕ) (r : Listed) (n : ℕ) → Held l room t r → r ≡ Count n →
-    (n ≡ length l) × (n ≤ min (room / 2) 65536) × (t ≡ flatPairs l ++ replicate (room - n * 2) 0)
+    (n ≡ length l) × (n ≤ tableHolds room) × (t ≡ flatPairs l ++ replicate (room - n * 2) 0)
 held-count l room t r n h e = rw e at h
 
 pub held-too-many : (l : List (ℕ × ℕ)) (room : ℕ) (t : List ℕ) (r : Listed) → Held l room t r → r ≡ TooMany →
-    (min (room / 2) 65536 < length l) × (t ≡ replicate room 0)
+    (tableHolds room < length l) × (t ≡ replicate room 0)
 held-too-many l room t r h e = rw e at h
 
 -- ---- the two ends of `table`
 
 -- the part of the table that is lent to `fill` holds `cap` pairs
 module _ (l : List (ℕ × ℕ)) (table filled : List ℕ) (cap : ℕ) (r : Filled)
-    (all : cap ≡ min (length table / 2) 65536)
+    (all : cap ≡ tableHolds (length table))
     (kept : Kept l (length (take (cap * 2) table) / 2) filled r) where
   pub lent-length : length (take (cap * 2) table) ≡ cap * 2
   lent-length = length-take-le (cap * 2) table (omega arith)
@@ -123,7 +123,7 @@ lists-for {file} {shape} target table n holds e f =
       nodes-small =
           λ x m.
           let w = pair-for (circuitAt file shape) (holds .valid) target (x .0) (x .1) m in
-          omega (arith, w .1, node-count file shape, holds .inputs-few, holds .gates-few);
+          omega (arith, w .1, node-count file shape, holds .counts .inputs-few, holds .counts .gates-few);
       times-small =
           λ x m.
           let w = pair-for (circuitAt file shape) (holds .valid) target (x .0) (x .1) m in

@@ -1,6 +1,6 @@
--- The pairs of a target: "the least set holding each output's pair at T and, for each pair (f, t) and each pin of f,
--- the driver's pair at t less the pin's delay". Interface: isPair, Asked (those words), pairList (the same as a list,
--- in the order of the variables), pairsFor (of a netlist), flatPairs (the lent table), placeOf (a pair's place).
+-- The pairs of a target (rule F4). Interface: isPair, Asked (the smallest set, as the rule has it), pairList (the same
+-- as a list, in the order of the variables), pairsFor (of a netlist), flatPairs (the lent table), pairPlace (a pair's
+-- place).
 use mathlib.Core.Bool.{Bool, not, _&&_, _||_, cond}
 use mathlib.Core.List.{List, [], _∷_, map, List·Memᴰ}
 use Prim.Native.Nat.{ℕ, suc, _+_, _-_}
@@ -11,8 +11,8 @@ use Rattle.settle.specs.Settling.{topOf}
 
 -- I inputs, the nodes' tops, the outputs and the target
 module _ (I : ℕ) (top : ℕ → ℕ) (outputs : List ℕ) (target : ℕ) where
-  -- "node late at t" is neither true outright (t is 0) nor false outright (t exceeds the top), and the node is a gate:
-  -- an input is late up to its top and not beyond
+  -- a node's being late at t is open (rule F2): t is neither 0 nor above the top, and the node is a gate, since an
+  -- input is late up to its top and not beyond
   abbrev pub isPair : ℕ → ℕ → Bool
   isPair node t = not (ltb node I) && (ltb 0 t && leb t (top node))
 
@@ -33,11 +33,11 @@ module _ (I : ℕ) (top : ℕ → ℕ) (outputs : List ℕ) (target : ℕ) where
   unfoldable pub timesAt : List Cell → ℕ → List ℕ
   timesAt gates f = keep (asked I gates f) (upFrom 1 (top f))
 
-  -- "by node rising, then t rising"
+  -- in the order of their nodes and, for one node, of their times (rule F5)
   unfoldable pub pairList : List Cell → List (ℕ × ℕ)
   pairList gates = concatMap (λ x. map (λ t. (x .0, t)) (timesAt gates (x .0))) (numbered I gates)
 
--- "In the lent table a pair is two numbers, node then t."
+-- the lent table: the node and the time of each pair (rule F6)
 unfoldable pub flatPairs : List (ℕ × ℕ) → List ℕ
 flatPairs [] = []
 flatPairs (x ∷ xs) = x .0 ∷ x .1 ∷ flatPairs xs
@@ -48,6 +48,6 @@ pairsFor circuit target =
     pairList (circuit .net .inputs) (topOf circuit) (circuit .net .outputs) target (circuit .net .gates)
 
 -- the place of a pair in a list of pairs
-unfoldable pub placeOf : ℕ → ℕ → List (ℕ × ℕ) → ℕ
-placeOf f t [] = 0
-placeOf f t (x ∷ xs) = cond (eqb (x .0) f && eqb (x .1) t) 0 (suc (placeOf f t xs))
+unfoldable pub pairPlace : ℕ → ℕ → List (ℕ × ℕ) → ℕ
+pairPlace f t [] = 0
+pairPlace f t (x ∷ xs) = cond (eqb (x .0) f && eqb (x .1) t) 0 (suc (pairPlace f t xs))

@@ -27,11 +27,15 @@ pub record Tops (file : List ℕ) (shape : Shape) (tops : List ℕ) : Type 0 whe
 abbrev pub pairsAt : List ℕ → Shape → ℕ → List (ℕ × ℕ)
 pairsAt file shape target = pairsFor (circuitAt file shape) target
 
--- the pairs and then zeros; or, where they are "more pairs than the table holds, or than 65,536", zeros
+-- how many pairs a lent table holds: two numbers a pair, and at most 65,536
+abbrev pub tableHolds : ℕ → ℕ
+tableHolds room = min (room / 2) 65536
+
+-- the pairs and then zeros; or, where they are over 65,536 or don't fit the table (row 10), zeros
 abbrev pub Held : List (ℕ × ℕ) → ℕ → List ℕ → Listed → Type 0
 Held pairs room table (Count n) =
-    (n ≡ length pairs) × (n ≤ min (room / 2) 65536) × (table ≡ flatPairs pairs ++ replicate (room - n * 2) 0)
-Held pairs room table TooMany = (min (room / 2) 65536 < length pairs) × (table ≡ replicate room 0)
+    (n ≡ length pairs) × (n ≤ tableHolds room) × (table ≡ flatPairs pairs ++ replicate (room - n * 2) 0)
+Held pairs room table TooMany = (tableHolds room < length pairs) × (table ≡ replicate room 0)
 
 -- the table begins with these pairs, which rise
 pub record Lists (table : List ℕ) (count : ℕ) (pairs : List (ℕ × ℕ)) : Type 0 where

@@ -1,4 +1,4 @@
--- "By node rising, then t rising", and lists that rise. Interface: Before, Rising. Above serves Rising.
+-- The order of the pairs (rule F5), and lists that rise. Interface: Before, Rising. Above serves Rising.
 use mathlib.Core.Path.{_≡_}
 use mathlib.Core.Logic.{_⊎_}
 use mathlib.Core.List.{List, [], _∷_}

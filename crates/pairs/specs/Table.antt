@@ -32,6 +32,10 @@ pub record Sorted (l : List (ℕ × ℕ)) : Type 0 where
   pub up : (j k : ℕ) → j < k → k < length l → keyOf (pairAt l j) < keyOf (pairAt l k)
   pub small : (k : ℕ) → pairAt l k .1 < 4294967296
 
+-- more than any top is, and less than a time may be in a key
+abbrev pub farTime : ℕ
+farTime = 1000000
+
 -- ---- what a search finds
 
 -- from `low` to `high` pairs stand before the key

@@ -8,8 +8,9 @@ ghost use lib.ListN.{length, getD, take, drop};
 ghost use Rattle.netlist.specs.File.{cellAt, firstAt, countAt};
 ghost use Rattle.netlist.specs.Holds.{Holds};
 ghost use Rattle.settle.specs.Settling.{last, readyAt};
-ghost use Rattle.pairs.specs.Pairs.{placeOf};
+ghost use Rattle.pairs.specs.Pairs.{pairPlace};
 ghost use Rattle.pairs.specs.Table.{
+  farTime,
   pairsIn,
   pairAt,
   keyOf,
@@ -27,7 +28,7 @@ ghost use Rattle.pairs.specs.Table.{
   Asks,
   Kept,
 };
-ghost use Rattle.pairs.specs.Promise.{Topped, Tops, pairsAt, Held, Lists, Findable, Bounds, Begins};
+ghost use Rattle.pairs.specs.Promise.{Topped, Tops, pairsAt, Held, Lists, Findable, Bounds, Begins, tableHolds};
 
 // Where the pairs begin in a table that is filled from its end, or that they are more than it holds.
 enum Filled {
@@ -140,7 +141,7 @@ pub fn starts(table: &[u32], count: usize, nodes: usize, starts: &mut [usize])
 pub fn place(table: &[u32], count: usize, starts: &[usize], node: usize, time: usize) -> usize
     requires { ⌜ Findable (now table) count node time
         × Bounds (pairsIn (take (count * 2) (now table))) (now starts) node ⌝ }
-    ensures { λ r. ⌜ ((pairs : List (ℕ × ℕ)) → Lists (now (table .entry)) count pairs → r ≡ placeOf node time pairs) ⌝ }
+    ensures { λ r. ⌜ ((pairs : List (ℕ × ℕ)) → Lists (now (table .entry)) count pairs → r ≡ pairPlace node time pairs) ⌝ }
 {
     let pairs = &table[..count * 2];
     let low = starts[node];
@@ -166,7 +167,7 @@ fn mark(marks: &mut [usize], time: usize)
 // Mark what a pin of this node with this delay asks for, from 1 to the top: the node's pairs from the one after the
 // delay to the one at the top and the delay.
 fn mark_pin(done: &[u32], node: usize, delay: usize, top: usize, marks: &mut [usize])
-    requires { ⌜ Sorted (pairsIn (now done)) × (node < 65536) × (delay < 1000) × (top < 1000000)
+    requires { ⌜ Sorted (pairsIn (now done)) × (node < 65536) × (delay < 1000) × (top < farTime)
         × (top / 64 < length (now marks)) ⌝ }
     ensures { λ _. ⌜ Adds (now (marks .entry)) (Within top (PinAsks (pairsIn (now (done .entry))) node delay))
         (now (marks .exit)) ⌝ }
@@ -190,7 +191,7 @@ fn mark_gate(
     top: usize,
     marks: &mut [usize],
 )
-    requires { ⌜ Sorted (pairsIn (now done)) × Holds (now file) shape × (number < shape .gates) × (top < 1000000)
+    requires { ⌜ Sorted (pairsIn (now done)) × Holds (now file) shape × (number < shape .gates) × (top < farTime)
         × (top / 64 < length (now marks)) ⌝ }
     ensures { λ _. ⌜ Adds (now (marks .entry))
         (Within top (GateAsks (pairsIn (now (done .entry))) (now (file .entry)) shape
@@ -246,7 +247,7 @@ fn mark_asked(
     marks: &mut [usize],
 )
     requires { ⌜ Sorted (pairsIn (now done)) × Holds (now file) shape × (shape .inputs ≤ f)
-        × (f < shape .inputs + shape .gates) × (top < 1000000) × (top / 64 < length (now marks)) ⌝ }
+        × (f < shape .inputs + shape .gates) × (top < farTime) × (top / 64 < length (now marks)) ⌝ }
     ensures { λ _. ⌜ Adds (now (marks .entry))
         (Within top (Asks (pairsIn (now (done .entry))) (now (file .entry)) shape target (shape .gates) f))
         (now (marks .exit)) ⌝ }
@@ -356,7 +357,7 @@ fn move_down(table: &mut [u32], from: usize, count: usize)
 
 // How many pairs a table of so many numbers holds.
 fn holds(numbers: usize) -> usize
-    ensures { λ r. ⌜ r ≡ min (numbers / 2) 65536 ⌝ }
+    ensures { λ r. ⌜ r ≡ tableHolds numbers ⌝ }
 {
     let half = numbers / 2;
     if half < 65536 { half } else { 65536 }

@@ -1,6 +1,6 @@
--- Document 01, the reader: "a small reader keeps the formula slice and a place in it and steps from clause to clause;
--- where no 0 is left, or its place is past the end, it gives the empty part at the slice's end and stays." Interface:
--- PartAt, clauseAt, nextAt, placeAfter; the others serve them.
+-- The reader (rules L5 and L6): a formula's slice with a place in it, from which it hands out clause after clause; from
+-- a place without a later 0, or behind the end, the stretch of length 0 at the slice's end, and a step doesn't move it.
+-- Interface: PartAt, clauseAt, nextAt, placeAfter; the others serve them.
 use mathlib.Core.Path.{_≡_}
 use mathlib.Core.Bool.{cond}
 use mathlib.Core.List.{List, [], _∷_}
@@ -31,7 +31,7 @@ lengthAt list at = firstLength (drop at list)
 unfoldable pub startAt : List ℤ → ℕ → ℕ
 startAt list at = cond (eqb (lengthAt list at) 0) (length list) at
 
--- the part given at a place: the clause with its 0, or "the empty part at the slice's end"
+-- the part given at a place: the clause with its 0, or the stretch of length 0 at the slice's end
 unfoldable pub clauseAt : List ℤ → ℕ → List ℤ
 clauseAt list at = take (lengthAt list at) (drop (startAt list at) list)
 
@@ -40,7 +40,7 @@ pub record PartAt (slice : RefT (List ℤ)) (at : ℕ) (part : RefT (List ℤ)) 
   pub holds : now part ≡ clauseAt (now slice) at
   pub lies : part .ptr ≡ pointAt (slice .ptr) (startAt (now slice) at)
 
--- the place past the clause; where there is none, the reader "stays"
+-- the place past the clause; where there is none, a step doesn't move the reader (rule L6)
 unfoldable pub nextAt : List ℤ → ℕ → ℕ
 nextAt list at = at + lengthAt list at
 

@@ -1,5 +1,5 @@
-// A reader of a formula: it keeps the slice and a place in it and steps from clause to clause. Its methods are thin;
-// the work is done by functions on a plain slice and a place. Assumes nothing.
+// A reader of a formula: a slice with a place in it, from which it hands out clause after clause (rules L5 and L6). Its
+// methods are thin; the work is done by functions on a plain slice and a place. Assumes nothing.
 ghost use mathlib.Core.Path.{_≡_};
 ghost use lib.ListN.{getD};
 ghost use mathlib.Core.List.{[]};

@@ -1,4 +1,4 @@
--- "Numbers a refusal gives": the number and the place of each case. Interface: both definitions.
+-- The table of refusals (rule T1): the number and the place of each case. Interface: both definitions.
 use Prim.Native.Nat.{ℕ}
 use Rattle.refusal.specs.declared.Refusal.{Refusal}
 use Rattle.refusal.specs.declared.Refusal.the-variants.{
@@ -19,7 +19,7 @@ use Rattle.refusal.specs.declared.Refusal.the-variants.{
   Witness,
 }
 
--- column "No."
+-- column "Number"
 abbrev pub numberOf : Refusal → ℕ
 numberOf (Short length) = 1
 numberOf (Version version) = 2
@@ -37,7 +37,7 @@ numberOf (Last clause) = 13
 numberOf (Step clause) = 14
 numberOf (Witness time) = 15
 
--- column "Place"
+-- column "Its place"
 abbrev pub placeOf : Refusal → ℕ
 placeOf (Short length) = length
 placeOf (Version version) = version

@@ -1,4 +1,4 @@
-// Document 01's table of refusals as one enum, and the number and place that each case stands for. Assumes nothing.
+// The table of refusals (rule T1) as one enum, and the number and place that each case stands for. Assumes nothing.
 ghost use mathlib.Core.Path.{_≡_};
 ghost use Rattle.refusal.specs.Table.{numberOf, placeOf};
 

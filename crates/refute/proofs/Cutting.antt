@@ -34,7 +34,7 @@ use Rattle.refute.specs.Parts.{
   spanFirst,
   spanOf,
   spanned,
-  Part,
+  ClausePart,
   pointAt,
 }
 use Rattle.refute.specs.Reading.{NextZero}
@@ -353,7 +353,7 @@ module _ {formula refutation part : RefT (List ℤ)} {number : ℕ} {span : Span
     pub part-of : (second : Bool) → span .second ≡ second →
         now part ≡ take (span .end - span .start) (drop (span .start) (cond second (now refutation) (now formula))) →
         part .ptr ≡ pointAt (cond second (refutation .ptr) (formula .ptr)) (span .start) →
-        Part formula refutation number part
+        ClausePart formula refutation number part
     part-of second t holds lies =
         let q : now part ≡ spanned (now formula) (now refutation) span = holds ∙ chosen second t in
         record {

@@ -66,19 +66,26 @@ answer-exists variables formula refutation room = go (checked (checkRows variabl
 abbrev Meets : Case → Type 0
 Meets c = Checks (c .variables) (c .formula) (c .refutation) (c .room) (c .answer)
 
-computed : map (λ (c : Case). answerTo (c .variables) (c .formula) (c .refutation) (c .room)) cases
-    ≡ map (λ (c : Case). c .answer) cases
+-- what a row's check comes to
+abbrev pub answered : Case → Checked
+answered c = answerTo (c .variables) (c .formula) (c .refutation) (c .room)
+
+-- rows that are computed have their answers as the promise means it
+pub computed-hold : (rows : List Case) → map answered rows ≡ map (λ (c : Case). c .answer) rows → (c : Case) →
+    List·Memᴰ c rows → Meets c
+computed-hold rows e c i =
+    subst (Checks (c .variables) (c .formula) (c .refutation) (c .room))
+    (map-each answered (λ (d : Case). d .answer) rows e c i)
+    (answer-exists (c .variables) (c .formula) (c .refutation) (c .room))
+
+computed : map answered cases ≡ map (λ (c : Case). c .answer) cases
 unfolding cases clausesFrom firstBeyond ended formulaRows refutationForm firstEmpty lastRow isTrue isFree
     assign say pass refutes assert follows verdict
 computed = refl
 
--- each row's check has the row's answer, as the promise means it
+-- each row's check has the row's answer
 pub cases-hold : (c : Case) → List·Memᴰ c cases → Meets c
-cases-hold c i =
-    subst (Checks (c .variables) (c .formula) (c .refutation) (c .room))
-    (map-each (λ (d : Case). answerTo (d .variables) (d .formula) (d .refutation) (d .room)) (λ (d : Case). d .answer)
-    cases computed c i)
-    (answer-exists (c .variables) (c .formula) (c .refutation) (c .room))
+cases-hold = computed-hold cases computed
 
 -- ---- clauses that follow
 

@@ -46,13 +46,14 @@ use Rattle.refusal.proofs.Rows.{passed-by, refused-first, passed-first, first-p
 use Rattle.clauses.specs.Clauses.{Literal, clausesFrom, clausesOf}
 use Rattle.refute.specs.Propagation.{Verdict, passes, stops, Judged}
 use Rattle.refute.specs.Passes.{follows, next, verdict}
-use Rattle.refute.specs.Promise.{Answers, malformed, accepted, step, Checks, Tested}
+use Rattle.refute.specs.Promise.{Answers, malformed, passed, stopped, Checks, Tested}
 use Rattle.refute.specs.Reading.{literalsOf, Within, Ready, NextZero, Clear, answerOf}
 use Rattle.refute.specs.Rows.{
   magnitude,
   firstBeyond,
   ended,
   formulaRows,
+  mostVariables,
   refutationForm,
   lastRow,
   refutationRows,
@@ -315,11 +316,11 @@ unfolding formulaRows
 formula-passes variables formula e =
     let last : List Row = (not (ended formula), Formula (length formula)) ∷ [] in
     let beyond = ltb (firstBeyond variables formula) (length formula) in
-    let p = passed-by (ltb 100000 variables) (Formula 0)
+    let p = passed-by (ltb mostVariables variables) (Formula 0)
     ((beyond, Formula (firstBeyond variables formula)) ∷ last) e in
     let q = passed-by beyond (Formula (firstBeyond variables formula)) last (p .1) in
     record {
-      few = ltb-false 100000 variables (p .0);
+      few = ltb-false mostVariables variables (p .0);
       within = beyond-all variables formula (ltb-false (firstBeyond variables formula) (length formula) (q .0));
       last = holds (not-back (ended formula) (passed-by (not (ended formula)) (Formula (length formula)) [] (q .1) .0));
     }
@@ -345,7 +346,7 @@ pub formula-accepted : (variables : ℕ) (formula : List ℤ) → WellFormed var
 unfolding formulaRows
 formula-accepted variables formula w =
     rw (
-      le-ltb 100000 variables (w .few),
+      le-ltb _ variables (w .few),
       beyond-length variables formula (w .within),
       le-ltb (length formula) (length formula) (omega arith),
       is-true (ended formula) (w .last),
@@ -416,9 +417,9 @@ module _ (variables : ℕ) (refutation : List ℤ) (room : ℕ) where
 pub answered : {rows : List Row} {stored refutation : List (List Literal)} (v : Verdict) (a : Checked) →
     checked rows ≡ Passes → Judged stored refutation v → a ≡ answerOf v → Answers rows stored refutation a
 answered {rows} {stored} {refutation} passes a p j e =
-    subst (Answers rows stored refutation) (sym e) (accepted p j)
+    subst (Answers rows stored refutation) (sym e) (passed p j)
 answered {rows} {stored} {refutation} (stops i) a p j e =
-    subst (Answers rows stored refutation) (sym e) (step p j)
+    subst (Answers rows stored refutation) (sym e) (stopped p j)
 
 -- the verdict that the clauses' walk came to, as the promise's
 pub judged-answer : {rows : List Row} {answer : Checked} (room : ℕ) (formula refutation : List ℤ) →
@@ -482,8 +483,8 @@ tested-answer variables n formula refutation slice e w f p a =
 pub answers-as : {rows more : List Row} {stored refutation : List (List Literal)} {a : Checked} →
     checked rows ≡ checked more → Answers rows stored refutation a → Answers more stored refutation a
 answers-as e (malformed p) = malformed (sym e ∙ p)
-answers-as e (accepted p j) = accepted (sym e ∙ p) j
-answers-as e (step p j) = step (sym e ∙ p) j
+answers-as e (passed p j) = passed (sym e ∙ p) j
+answers-as e (stopped p j) = stopped (sym e ∙ p) j
 
 module _ {a : Checked} (v w : ℕ) (formula refutation : List ℤ) (room : ℕ) (e : w ≡ v)
     (f : a ≡ checked (formulaRows w formula)) where

@@ -10,3 +10,4 @@ pub mod Walking
 pub mod Judging
 pub mod Cutting
 pub mod Examples
+pub mod Edges

@@ -131,7 +131,7 @@ visiting-starts list marks moved =
     record { upto = omega arith; long = refl; fewer = omega arith; left = λ after. refl }
 
 -- a whole clause was read, from i to its 0 at j
-pub record Closed (list : List ℤ) (before : List ℕ) (moved₀ : Bool) (marks : List ℕ) (moved : Bool) (i : ℕ)
+pub record ReadThrough (list : List ℤ) (before : List ℕ) (moved₀ : Bool) (marks : List ℕ) (moved : Bool) (i : ℕ)
     (scan : Scan) (j : ℕ) : Type 0 where
   pub above : i ≤ j
   pub within : j < length list
@@ -145,7 +145,7 @@ pub record Closed (list : List ℤ) (before : List ℕ) (moved₀ : Bool) (marks
 module _ {list : List ℤ} {before : List ℕ} {moved₀ : Bool} {marks : List ℕ} {moved : Bool} {i : ℕ}
     (v : Visiting list before moved₀ marks moved i) {scan : Scan} {j : ℕ} (b : Begun list marks i scan j) where
   -- its literals were read one by one
-  pub closes : codeOf (getD list j (pos 0)) ≡ 0 → Closed list before moved₀ marks moved i scan j
+  pub closes : codeOf (getD list j (pos 0)) ≡ 0 → ReadThrough list before moved₀ marks moved i scan j
   closes z =
       record {
         above = b .above;
@@ -168,7 +168,7 @@ module _ {list : List ℤ} {before : List ℕ} {moved₀ : Bool} {marks : List �
   -- it was left at a literal after which there was nothing to say
   pub closes-early : {last : Scan} {to : ℕ} → T (ended list) → (codeOf (getD list j (pos 0)) ≡ 0 → ⊥) →
       last ≡ looked marks scan (codeOf (getD list j (pos 0))) → last .free ≡ 2 → NextZero list (j + 1) to →
-      Closed list before moved₀ marks moved i last to
+      ReadThrough list before moved₀ marks moved i last to
   closes-early {last} {to} t n q f z =
       let w : to < length list = zero-there t (one-after list j t (b .within) n) z in
       record {
@@ -195,7 +195,7 @@ module _ {list : List ℤ} {before : List ℕ} {moved₀ : Bool} {marks : List �
 
 -- it changes nothing
 pub visiting-quiet : {list : List ℤ} {before : List ℕ} {moved₀ : Bool} {marks : List ℕ} {moved : Bool} {i : ℕ}
-    {scan : Scan} {j : ℕ} (k : Closed list before moved₀ marks moved i scan j) → say marks (k .read) ≡ quiet →
+    {scan : Scan} {j : ℕ} (k : ReadThrough list before moved₀ marks moved i scan j) → say marks (k .read) ≡ quiet →
     Visiting list before moved₀ marks moved (j + 1)
 unfolding pass
 visiting-quiet {list} {marks = marks} {moved} {j = j} k q =
@@ -218,7 +218,7 @@ visiting-quiet {list} {marks = marks} {moved} {j = j} k q =
 
 -- its one free literal becomes true
 pub visiting-unit : {list : List ℤ} {before : List ℕ} {moved₀ : Bool} {marks : List ℕ} {moved : Bool} {i : ℕ}
-    {scan : Scan} {j : ℕ} (k : Closed list before moved₀ marks moved i scan j) → Lone marks scan (k .read) →
+    {scan : Scan} {j : ℕ} (k : ReadThrough list before moved₀ marks moved i scan j) → Lone marks scan (k .read) →
     Visiting list before moved₀ (set marks (scan .unit / 2) (scan .unit % 2 + 1)) true (j + 1)
 unfolding pass assign
 visiting-unit {list} {before} {moved₀} {marks} {moved} {scan = scan} {j} k o =
@@ -251,7 +251,7 @@ unit-within {marks} o =
 
 -- it is false
 pub visiting-hit : {list : List ℤ} {before : List ℕ} {moved₀ : Bool} {marks : List ℕ} {moved : Bool} {i : ℕ}
-    {scan : Scan} {j : ℕ} (k : Closed list before moved₀ marks moved i scan j) → say marks (k .read) ≡ refuted →
+    {scan : Scan} {j : ℕ} (k : ReadThrough list before moved₀ marks moved i scan j) → say marks (k .read) ≡ refuted →
     (after : List (List Literal)) → pass before moved₀ (clausesOf list ++ after) ≡ hit
 unfolding pass
 visiting-hit {list} {marks = marks} {moved} {j = j} k q after =

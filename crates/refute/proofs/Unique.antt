@@ -9,11 +9,11 @@ use Rattle.refusal.specs.declared.Checked.{Checked}
 use Rattle.refusal.specs.Rows.{Row}
 use Rattle.refusal.proofs.Rows.{apart}
 use Rattle.clauses.specs.Clauses.{Literal}
-use Rattle.refute.specs.Parts.{Part}
+use Rattle.refute.specs.Parts.{ClausePart}
 use Rattle.refute.specs.Propagation.{Verdict, passes, stops, Judged}
 use Rattle.refute.specs.Passes.{next}
 use Rattle.refute.specs.Reading.{answerOf}
-use Rattle.refute.specs.Promise.{Answers, malformed, accepted, step, Checks, Tested}
+use Rattle.refute.specs.Promise.{Answers, malformed, passed, stopped, Checks, Tested}
 
 -- one verdict
 pub judged-unique : (refutation stored : List (List Literal)) (v w : Verdict) → Judged stored refutation v →
@@ -39,16 +39,16 @@ judged-unique (c ∷ cs) stored (stops (suc i)) (stops (suc j)) h k =
 pub answers-unique : {rows : List Row} {stored refutation : List (List Literal)} {a b : Checked} →
     Answers rows stored refutation a → Answers rows stored refutation b → a ≡ b
 answers-unique (malformed p) (malformed q) = sym p ∙ q
-answers-unique (malformed p) (accepted q k) = apart p q
-answers-unique (malformed p) (step q k) = apart p q
-answers-unique (accepted p h) (malformed q) = apart q p
-answers-unique (accepted p h) (accepted q k) = refl
-answers-unique {stored = stored} {refutation} (accepted p h) (step {i = i} q k) =
+answers-unique (malformed p) (passed q k) = apart p q
+answers-unique (malformed p) (stopped q k) = apart p q
+answers-unique (passed p h) (malformed q) = apart q p
+answers-unique (passed p h) (passed q k) = refl
+answers-unique {stored = stored} {refutation} (passed p h) (stopped {i = i} q k) =
     ap answerOf (judged-unique refutation stored passes (stops i) h k)
-answers-unique (step p h) (malformed q) = apart q p
-answers-unique {stored = stored} {refutation} (step {i = i} p h) (accepted q k) =
+answers-unique (stopped p h) (malformed q) = apart q p
+answers-unique {stored = stored} {refutation} (stopped {i = i} p h) (passed q k) =
     ap answerOf (judged-unique refutation stored (stops i) passes h k)
-answers-unique {stored = stored} {refutation} (step {i = i} p h) (step {i = j} q k) =
+answers-unique {stored = stored} {refutation} (stopped {i = i} p h) (stopped {i = j} q k) =
     ap answerOf (judged-unique refutation stored (stops i) (stops j) h k)
 
 -- one answer to a separate check
@@ -63,5 +63,5 @@ tested-unique variables formula refutation room p q = answers-unique p q
 
 -- one part for a clause's number: its numbers, and where it lies
 pub clause-unique : {formula refutation : RefT (List ℤ)} {number : ℕ} (p q : RefT (List ℤ)) →
-    Part formula refutation number p → Part formula refutation number q → (now p ≡ now q) × (p .ptr ≡ q .ptr)
+    ClausePart formula refutation number p → ClausePart formula refutation number q → (now p ≡ now q) × (p .ptr ≡ q .ptr)
 clause-unique p q a b = (a .held ∙ sym (b .held), a .lies ∙ sym (b .lies))

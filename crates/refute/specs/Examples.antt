@@ -1,5 +1,5 @@
--- Document 01's worked examples of a refutation (those marked P), as data: what is checked, and the answer.
--- proofs/Examples has them as one statement over these rows. Interface: all of it.
+-- The examples of rule X3 on refutations, as data: what is checked, and the answer. proofs/Examples has them as one
+-- statement over these rows. Interface: all of it.
 use mathlib.Core.List.{List, [], _∷_}
 use Prim.Native.Nat.{ℕ}
 use lib.IntN.{ℤ, pos, negsuc}
@@ -15,12 +15,12 @@ pub record Case : Type 0 where
   pub room : ℕ
   pub answer : Checked
 
--- "1 2 0 1 -2 0 -1 2 0 -1 -2 0"
+-- the formula 1 2 0 1 -2 0 -1 2 0 -1 -2 0
 abbrev pub fourClauses : List ℤ
 fourClauses =
     pos 1 ∷ pos 2 ∷ pos 0 ∷ pos 1 ∷ negsuc 1 ∷ pos 0 ∷ negsuc 0 ∷ pos 2 ∷ pos 0 ∷ negsuc 0 ∷ negsuc 1 ∷ pos 0 ∷ []
 
--- "formula "1 2 0 1 -2 0 -1 2 0 -1 -2 0", V=2: "0" gives STEP 0", ""1 0 0" passes", ""0 0" gives LAST 0"
+-- against it the refutation 0 is STEP 0, the refutation 1 0 0 passes, and 0 0 is LAST 0
 unfoldable pub cases : List Case
 cases =
     record { variables = 2; formula = fourClauses; refutation = pos 0 ∷ []; room = 3; answer = Refused (Step 0) }
@@ -46,7 +46,7 @@ pub record Following : Type 0 where
   pub formula : List ℤ
   pub clause : List ℤ
 
--- "formula "1 2 0", clause "1 -1 0" follows"
+-- the clause 1 -1 0 follows from the formula 1 2 0
 unfoldable pub followings : List Following
 followings =
     record { room = 3; formula = pos 1 ∷ pos 2 ∷ pos 0 ∷ []; clause = pos 1 ∷ negsuc 0 ∷ pos 0 ∷ [] } ∷ []

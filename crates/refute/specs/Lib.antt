@@ -1,5 +1,5 @@
--- Interface: Propagation (what a reader must believe), Rows, Promise, Parts, Examples. Passes computes what Propagation
--- says; Reading serves the contracts inside this crate.
+-- Interface: Propagation (what a reader must believe), Rows, Promise, Parts, Examples and Edges (rows of the proved
+-- table). Passes computes what Propagation says; Reading serves the contracts inside this crate.
 pub mod Propagation
 pub mod Rows
 pub mod Promise
@@ -7,3 +7,4 @@ pub mod Passes
 pub mod Parts
 pub mod Reading
 pub mod Examples
+pub mod Edges

@@ -1,4 +1,4 @@
--- The clauses of two lists by number, each with its 0 as a part of the list that holds it. Interface: parts, Part.
+-- The clauses of two lists by number, each with its 0 as a part of the list that holds it. Interface: parts, ClausePart.
 use mathlib.Core.Path.{_≡_}
 use mathlib.Core.Bool.{true, false, cond}
 use mathlib.Core.List.{List, [], _∷_, _++_}
@@ -19,7 +19,7 @@ partsFrom begun (pos zero ∷ zs) = (begun ++ (pos 0 ∷ [])) ∷ partsFrom [] z
 partsFrom begun (pos (suc n) ∷ zs) = partsFrom (begun ++ (pos (suc n) ∷ [])) zs
 partsFrom begun (negsuc n ∷ zs) = partsFrom (begun ++ (negsuc n ∷ [])) zs
 
--- a list cut behind each 0; "numbers after a list's last 0 are no clause"
+-- a list cut behind each 0 (rule L1)
 abbrev pub parts : List ℤ → List (List ℤ)
 parts zs = partsFrom [] zs
 
@@ -32,17 +32,17 @@ unfoldable pub foundIn : List ℤ → ℕ → Found
 foundIn zs n =
     cond (ltb n (length (parts zs))) (At (startOf zs n) (startOf zs (suc n))) (Beyond (n - length (parts zs)))
 
--- what is found in the refutation; "a number that names no clause gives the empty part at the refutation's end"
+-- what is found in the refutation; beyond its last clause, the stretch of length 0 at its end (rule L4)
 abbrev pub spanSecond : Found → ℕ → Span
-spanSecond (At start end) length = record { second = true; start = start; end = end }
-spanSecond (Beyond n) length = record { second = true; start = length; end = length }
+spanSecond (At start end) last = record { second = true; start = start; end = end }
+spanSecond (Beyond n) last = record { second = true; start = last; end = last }
 
 -- what is found in the formula; what is not is looked for in the refutation
 abbrev pub spanFirst : Found → List ℤ → Span
 spanFirst (At start end) refutation = record { second = false; start = start; end = end }
 spanFirst (Beyond n) refutation = spanSecond (foundIn refutation n) (length refutation)
 
--- "the clause with a given number (the formula's first, then the refutation's)": which list, from where, to where
+-- the clause with a number, the formula's first and then the refutation's (rule L2): which list, from where, to where
 unfoldable pub spanOf : List ℤ → List ℤ → ℕ → Span
 spanOf formula refutation number = spanFirst (foundIn formula number) refutation
 
@@ -57,8 +57,8 @@ abbrev pub pointAt : ℕ × ℕ → ℕ → ℕ × ℕ
 pointAt start at = (start .0, at * 4 + start .1)
 
 -- what is handed back for a number: the part that its span names, which is the numbered one of both lists' parts; and
--- it lies there, in "whichever list holds it, formula or refutation, no copy made"
-pub record Part (formula refutation : RefT (List ℤ)) (number : ℕ) (part : RefT (List ℤ)) : Type 0 where
+-- it lies there, in the list's own memory (rule L3)
+pub record ClausePart (formula refutation : RefT (List ℤ)) (number : ℕ) (part : RefT (List ℤ)) : Type 0 where
   pub held : now part ≡ spanned (now formula) (now refutation) (spanOf (now formula) (now refutation) number)
   pub named : now part ≡ getD (parts (now formula) ++ parts (now refutation)) number []
   pub lies : part .ptr ≡

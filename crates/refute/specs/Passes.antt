@@ -1,6 +1,6 @@
--- Unit propagation computed, as the code does it: passes over the stored clauses in list order, assigning as it goes
--- and stopping at the first false clause. One mark a variable: 0 free, 1 true, 2 false. proofs/Agree has that this
--- is what Propagation says. Interface: follows, verdict.
+-- Unit propagation computed, as the code does it: pass after pass over the stored clauses in list order; what a pass
+-- makes true counts at once, and a false clause ends it. One mark a variable: 0 free, 1 true, 2 false. proofs/Agree has
+-- that this is what Propagation says. Interface: follows, verdict.
 use mathlib.Core.Bool.{Bool, true, false, _&&_, Bool·beq, cond}
 use mathlib.Core.List.{List, [], _∷_, _++_}
 use Prim.Native.Nat.{ℕ, zero, suc}

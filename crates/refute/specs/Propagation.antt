@@ -1,23 +1,23 @@
--- Document 01, section "Unit propagation": when a clause follows from stored clauses, and the verdict on a refutation.
--- "The order in which clauses are visited doesn't alter the verdict": there is no order in it. This file is what a
--- reader must believe of a refutation. Interface: all of it.
+-- Section P of the rules: when a clause follows from stored clauses, and the verdict on a refutation. No order of
+-- visits is part of it (rule P5). This file is what a reader must believe of a refutation. Interface: all of it.
 use mathlib.Core.List.{List, [], _∷_, _++_, map, List·Memᴰ}
 use mathlib.Core.Logic.{_≢_}
 use Prim.Native.Nat.{ℕ, zero, suc}
 use Rattle.clauses.specs.Clauses.{Literal, opposite}
 
--- "To test a clause, assert the opposite of each of its literals."
+-- what a test makes true at first: the opposite of every literal of the clause (rule P1)
 abbrev pub assertions : List Literal → List Literal
 assertions clause = map opposite clause
 
--- The literals that become true. A literal is false where its opposite is true. "If all its literals are false but
--- occurrences of one unassigned literal, that literal becomes true."
+-- The literals that become true. A literal is false where its opposite is true. A stored clause whose literals are all
+-- false except one, however often it occurs, makes that one true (rule P3).
 pub data Forced (stored : List (List Literal)) (asserted : List Literal) : Literal → Type 0 where
   given : {l : Literal} → List·Memᴰ l asserted → Forced stored asserted l
   unit : {l : Literal} (c : List Literal) → List·Memᴰ c stored → List·Memᴰ l c →
       ((m : Literal) → List·Memᴰ m c → m ≢ l → Forced stored asserted (opposite m)) → Forced stored asserted l
 
--- "If two assertions contradict, it follows. Otherwise: if a stored clause has every literal false, it follows."
+-- A clause follows where two of the literals made true at first are opposites (rule P2), or where a stored clause is
+-- false (rule P3).
 pub data Follows (stored : List (List Literal)) (clause : List Literal) : Type 0 where
   clash : {l : Literal} → List·Memᴰ l (assertions clause) → List·Memᴰ (opposite l) (assertions clause) →
       Follows stored clause
@@ -29,7 +29,7 @@ pub data Verdict : Type 0 where
   passes : Verdict
   stops : ℕ → Verdict
 
--- The verdict on a refutation. "The stored clauses are the formula and the earlier clauses of the refutation."
+-- The verdict on a refutation: each clause is tested against the formula's and those in front of it (rule P6).
 unfoldable pub Judged : List (List Literal) → List (List Literal) → Verdict → Type 0
 Judged stored [] passes = Unit {0}
 Judged stored [] (stops i) = ⊥

@@ -9,7 +9,7 @@ ghost use lib.ListN.{length, getD, replicate};
 ghost use Rattle.refusal.specs.Rows.{checked, roomRow};
 ghost use Rattle.clauses.specs.Clauses.{clausesOf};
 ghost use Rattle.clauses.specs.Codes.{codeOf};
-ghost use Rattle.refute.specs.Parts.{foundIn, spanOf, Part};
+ghost use Rattle.refute.specs.Parts.{foundIn, spanOf, ClausePart};
 ghost use Rattle.refute.specs.Passes.{assert};
 ghost use Rattle.refute.specs.Promise.{Checks, Tested};
 ghost use Rattle.refute.specs.Reading.{literalsOf, listAt, looked, outcome, followsFrom, verdictOn};
@@ -392,10 +392,10 @@ pub fn span_of(formula: &[i32], refutation: &[i32], number: usize) -> Span
     }
 }
 
-// The clause with a number, with its 0, as a part of whichever list holds it; no copy is made. A number that names no
-// clause gives the empty part at the refutation's end.
+// The clause with a number, its 0 included, as the stretch of the list in which it lies, and not a copy. Beyond the
+// last clause, the stretch of length 0 at the end of the refutation.
 pub fn clause<'a>(formula: &'a [i32], refutation: &'a [i32], number: usize) -> &'a [i32]
-    ensures { λ r. ⌜ Part (formula .entry) (refutation .entry) number r ⌝ }
+    ensures { λ r. ⌜ ClausePart (formula .entry) (refutation .entry) number r ⌝ }
 {
     let span = span_of(formula, refutation, number);
     let start = span.start;

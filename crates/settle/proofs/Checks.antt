@@ -126,17 +126,17 @@ by-checks file shape vector valuesRoom timesRoom g =
 -- ---- the file's own checks, 1 to 7
 
 module _ (file vector : List ℕ) (valuesRoom timesRoom : ℕ) where
-  pub accepted : (shape : Shape) → openOf file ≡ Accepted shape →
+  pub of-accepted : (shape : Shape) → openOf file ≡ Accepted shape →
       evaluation file vector valuesRoom timesRoom ≡ evaluationOf (circuitAt file shape) vector valuesRoom timesRoom
   unfolding evaluation evaluationOf
-  accepted shape e =
+  of-accepted shape e =
       call-accepted file (λ circuit. evaluationRows circuit vector valuesRoom timesRoom) (refused valuesRoom timesRoom)
       (λ circuit. settled circuit vector valuesRoom timesRoom) e
 
-  pub rejected : (refusal : Refusal) → openOf file ≡ Rejected refusal →
+  pub of-rejected : (refusal : Refusal) → openOf file ≡ Rejected refusal →
       evaluation file vector valuesRoom timesRoom ≡ refused valuesRoom timesRoom refusal
   unfolding evaluation
-  rejected refusal e =
+  of-rejected refusal e =
       call-rejected file (λ circuit. evaluationRows circuit vector valuesRoom timesRoom) (refused valuesRoom timesRoom)
       (λ circuit. settled circuit vector valuesRoom timesRoom) e
 

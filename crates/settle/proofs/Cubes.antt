@@ -73,7 +73,7 @@ module _ {P : Type 0} (value : P → Bool) (ready : P → ℕ) where
       go true (List·Memᴰ·tail i) r = let f = r i in omega arith
       go false i r = let f = r i in omega arith
 
-  -- document 01's words are the cubes' form
+  -- rules S3 and S4 are the cubes' form
   pub settles-cubes : (kind : Kind) (ps : List P) →
       settles value ready kind ps ≡ earliest value ready (cubes kind ps) (last ready ps)
   unfolding settles earliest

@@ -1,5 +1,5 @@
--- Document 01's cases on settling marked P, on the bytes of their files: one table, and one statement over it; and the
--- tops of circuit A. Interface: Case, cases, cases-hold, tops-hold.
+-- The cases of rule X3 on settling, on the bytes of their files: one table, and one statement over it; and the tops of
+-- circuit A. Interface: Case, cases, cases-hold, tops-hold.
 use mathlib.Core.Path.{_≡_, refl}
 use mathlib.Core.List.{List, [], _∷_, map}
 use Prim.Native.Nat.{ℕ}
@@ -32,14 +32,14 @@ pub record Case : Type 0 where
   pub vector : List ℕ
   pub expected : Evaluation
 
--- "XOR of one input twice, delays 1 and 4"
+-- XOR of an input with itself, delays 1 and 4
 unfoldable pub xorTwice : List ℕ
 xorTwice =
     7 ∷ 2 ∷ 0 ∷ 0 ∷
     0 ∷ 0 ∷ 1 ∷ 0 ∷ 0 ∷ 0 ∷ 4 ∷ 0 ∷
     1 ∷ 0 ∷ 14 ∷ 0 ∷ 0 ∷ 0 ∷ 1 ∷ 0 ∷ 1 ∷ 0 ∷ 2 ∷ 0 ∷ 1 ∷ 0 ∷ 1 ∷ 0 ∷ []
 
--- "MUX of three inputs, delays 9, 1, 2"
+-- MUX of three inputs, delays 9, 1 and 2
 unfoldable pub muxOfThree : List ℕ
 muxOfThree =
     9 ∷ 3 ∷ 0 ∷ 0 ∷
@@ -85,7 +85,7 @@ unfolding
     byteWrong
 cases-hold = refl
 
--- "Topological delay 5": the tops of circuit A
+-- the tops of circuit A: its topological delay is 5
 pub tops-hold : topsOf (circuitOf circuitA) ≡ 0 ∷ 0 ∷ 3 ∷ 4 ∷ 5 ∷ []
 unfolding circuitA kinds kindRow tableBytes shapeOf gateAt pinAt pinsFrom cellOf cellAt netlistAt grow topsOf
 tops-hold = refl

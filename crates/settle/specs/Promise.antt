@@ -32,12 +32,12 @@ pub record Meets (promised : Evaluation) (answer : Settled) (values times : List
   pub values-are : values ≡ promised .values
   pub times-are : times ≡ promised .times
 
--- "Any refusal zeroes all slices lent for writing."
+-- after a refusal every lent slice holds zeros (rule C7)
 abbrev pub refused : ℕ → ℕ → Refusal → Evaluation
 refused valuesRoom timesRoom refusal =
     record { answer = Refused refusal; values = replicate valuesRoom 0; times = replicate timesRoom 0 }
 
--- values and times, and zeros in "whatever part wasn't needed"
+-- values and times, and zeros in all of the rest (rule C8)
 unfoldable pub settled : Circuit → List ℕ → ℕ → ℕ → Evaluation
 settled circuit vector valuesRoom timesRoom =
     record {
@@ -50,7 +50,7 @@ settled circuit vector valuesRoom timesRoom =
 unfoldable pub byteWrong : List ℕ → ℕ
 byteWrong vector = firstWrong (ltb 1) vector
 
--- 8 VECTOR: "length isn't I, or a byte over 1"; place "I for length, else position"
+-- 8 VECTOR, of a vector of the right length: the position of the first byte that is neither 0 nor 1
 abbrev pub vectorRows : ℕ → List ℕ → List Row
 vectorRows inputs vector =
     (not (eqb (length vector) inputs), Vector inputs)

@@ -1,4 +1,4 @@
--- Document 01's section "Settling", sentence by sentence. Interface: all of it.
+-- Section S of the rules, rule by rule, and what a gate gives (rules K2 to K4). Interface: all of it.
 use mathlib.Core.Bool.{Bool, false, not, Bool·beq, cond}
 use mathlib.Core.List.{List, [], _∷_, _++_}
 use Prim.Native.Nat.{ℕ, _+_, max, min}
@@ -16,8 +16,8 @@ module _ {P : Type 0} (value : P → Bool) where
   atValue c [] = []
   atValue c (p ∷ ps) = cond (Bool·beq (value p) c) (p ∷ atValue c ps) (atValue c ps)
 
-  -- c forces k, otherwise the output is not k; "MUX gives a when select is 0, b when it is 1"; a parity gate of equal
-  -- pins gives its parity. MUX has three pins: it is never asked with fewer
+  -- some pin at c gives k, none its opposite (rule K2); equal pins give a parity gate's own value (rules K3 and K5);
+  -- MUX passes a on for select 0 and b for select 1 (rule K4). MUX has three pins: it is never asked with fewer
   unfoldable pub gateValue : Kind → List P → Bool
   gateValue (Simple c k) ps = cond (any (λ p. Bool·beq (value p) c) ps) k (not k)
   gateValue (Parity equal) [] = equal
@@ -43,8 +43,8 @@ module _ {P : Type 0} (ready : P → ℕ) where
   firstOr [] otherwise = otherwise
   firstOr (p ∷ ps) otherwise = first p ps
 
--- "A simple gate with a pin at c settles when the first such pin is ready; otherwise when its last pin is ready.
--- XOR, XNOR and MUX settle when the last pin is ready."
+-- A simple gate with pins at c settles as soon as the earliest of these is ready, one without once all its pins are
+-- (rule S3); XOR, XNOR and MUX settle once all their pins are (rule S4).
 unfoldable pub settles : {P : Type 0} → (P → Bool) → (P → ℕ) → Kind → List P → ℕ
 settles value ready (Simple c k) ps = firstOr ready (atValue value c ps) (last ready ps)
 settles value ready (Parity equal) ps = last ready ps
@@ -57,7 +57,7 @@ unfoldable pub grow : {A : Type 0} → A → (Cell → (ℕ → A) → A) → Li
 grow none step done [] = done
 grow none step done (g ∷ gs) = grow none step (done ++ (step g (λ node. getD done node none) ∷ [])) gs
 
--- "A pin is ready at its node's settling time plus its delay."
+-- a pin is ready its delay after its driver settles (rule S2)
 abbrev pub readyAt : (ℕ → ℕ) → Pin → ℕ
 readyAt time p = time (p .driver) + p .delay
 
@@ -79,11 +79,11 @@ timesOf circuit vector =
 abbrev pub timeOf : Circuit → List Bool → ℕ → ℕ
 timeOf circuit vector node = getD (timesOf circuit vector) node 0
 
--- "The circuit settles at the largest time of its outputs."
+-- the circuit settles with the latest of its outputs (rule S6)
 unfoldable pub circuitTime : Circuit → List Bool → ℕ
 circuitTime circuit vector = last (timeOf circuit vector) (circuit .net .outputs)
 
--- "top(node) is the longest sum of delays to it, 0 for an input."
+-- the tops of all nodes (rule S7): an input's is its arrival, a gate's the largest of a driver's top plus the delay
 unfoldable pub topsOf : Circuit → List ℕ
 topsOf circuit = grow 0 (λ g top. last (readyAt top) (g .pins)) (circuit .arrivals) (circuit .net .gates)
 

@@ -51,13 +51,17 @@ scanOf values times c [] = record { some = false; first = 0; last = 0 }
 scanOf values times c (p ∷ ps) =
     withPin (scanOf values times c ps) (Bool·beq (pinValue values p) c) (pinReady times p)
 
+-- no node settles later: 448 gates in a row, each behind a delay of 999
+abbrev pub latest : ℕ
+latest = 447552
+
 -- the pins stand in the file, their drivers in the slices, and no time is so late that a delay more would not fit
 pub record Wired (file : List ℕ) (shape : Shape) (first count : ℕ) (values times : List ℕ) : Type 0 where
   pub tables : Tables file shape
   pub within : first + count ≤ shape .pins
   pub drivers : (pin : ℕ) → first ≤ pin → pin < first + count → driverAt file shape pin < length values
   pub paired : length times ≡ length values
-  pub early : (node : ℕ) → getD times node 0 ≤ 447552
+  pub early : (node : ℕ) → getD times node 0 ≤ latest
 
 -- ---- the nodes
 

@@ -158,7 +158,8 @@ fn parity_signal(
     }
 }
 
-// A multiplexer of three pins from `first` on: a when select is 0, b when it is 1, when the last of the three is ready.
+// A multiplexer of three pins from `first` on: it passes a on for select 0 and b for select 1, once all three are
+// ready.
 fn mux_signal(file: &[u8], shape: Shape, first: usize, values: &[u8], times: &[u32]) -> Signal
     requires { ⌜ Wired (now file) shape first 3 (now values) (now times) ⌝ }
     ensures { λ r. ⌜

@@ -1,8 +1,8 @@
 // Prints the timing formula for a target as DIMACS CNF. Standard input: the target (4 bytes, little endian), then the
-// netlist to the end. Prints `p cnf V C`, then one clause a line; or `refused number place`, where places count
-// without the target's bytes. An input of fewer than 4 bytes is `refused 1` and its length. Its room: a netlist of
-// 65,532 bytes (a longer one: `refused 9 65533`), 8,192 pairs, a formula of 16,384 numbers. What matters is
-// formula::build's contract. Assumes nothing of its own.
+// netlist to the end. Prints `p cnf V C`, then every clause as a line; or `refused number place`, with the places of
+// the netlist by itself. Of fewer than 4 bytes it says `refused 1` and how many there were. It has room for a netlist
+// of 65,532 bytes, and of a longer one says `refused 9 65533`; for 8,192 pairs; and for 16,384 numbers (rules W2 and
+// W3). What matters is formula::build's contract. Assumes nothing of its own.
 use formula::Built;
 use formula::Counts;
 use refusal::Refusal;

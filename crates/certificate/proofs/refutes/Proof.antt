@@ -1,8 +1,8 @@
--- `certificate::refutes` meets its contract: a building that answers with counts has left its numbers, well formed, in
+-- `certificate::refutes` meets its contract: a building that answers with counts has left its numbers, well formula-front, in
 -- the front of the formula slice, and the test is of that front. Assumes nothing.
 use mathlib.Core.Path.{refl}
 use borrow.Author.Needs.{needs}
-use Rattle.certificate.proofs.Steps.{formed, refutes-refused, refutes-tested}
+use Rattle.certificate.proofs.Steps.{formula-front, refutes-refused, refutes-tested}
 use Rattle.certificate.proofs.refutes.Statement.{statement}
 use Rattle.certificate.proofs.refutes.Tie as tie
 
@@ -21,7 +21,7 @@ slice-reshare-prefix-test c =
     let call = told .before .before .before .before .before in
     let start = call .before .before .before .before .before .before in
     let e = call .build-from .ensures in
-    formed _ _ (start .pre .valid) (e .answer-is) (e .formula-is) (told .built2 .given .1) .fit
+    formula-front _ _ (start .pre .valid) (e .answer-is) (e .formula-is) (told .built2 .given .1) .fit
 
 slice-aggregate-test : tie.Need-slice-aggregate-test
 slice-aggregate-test c =
@@ -29,7 +29,7 @@ slice-aggregate-test c =
     let call = told .before .before .before .before .before in
     let start = call .before .before .before .before .before .before in
     let e = call .build-from .ensures in
-    formed _ _ (start .pre .valid) (e .answer-is) (e .formula-is) (told .built2 .given .1) .front-long
+    formula-front _ _ (start .pre .valid) (e .answer-is) (e .formula-is) (told .built2 .given .1) .front-long
 
 test-requires : tie.Need-test-requires
 test-requires c κs =
@@ -37,7 +37,7 @@ test-requires c κs =
     let call = told .before .before .before .before .before in
     let start = call .before .before .before .before .before .before in
     let e = call .build-from .ensures in
-    formed _ _ (start .pre .valid) (e .answer-is) (e .formula-is) (told .built2 .given .1) .well-formed
+    formula-front _ _ (start .pre .valid) (e .answer-is) (e .formula-is) (told .built2 .given .1) .well-formed
 
 same-length : tie.Need-same-length
 same-length c = search needs

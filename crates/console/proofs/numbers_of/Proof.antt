@@ -1,6 +1,7 @@
 -- `console::numbers_of` meets its contract: the first k numbers are read, and what is left falls. Assumes nothing.
 use Rattle.console.proofs.Numbers as N
 use Rattle.clauses.specs.Codes.{signedOf}
+use Rattle.console.specs.Reading.{numbersOf}
 use mathlib.Core.Path.{ap, _∙_}
 use mir.Syntax.{w32}
 use mir.Val.{SFits, toZ, ofZ}
@@ -54,7 +55,8 @@ same-length : tie.Need-same-length Inv-loop μ-loop
 same-length c = c .before .loop .inv .long
 
 returns : tie.Need-returns Inv-loop μ-loop
-returns c = λ k h. c .before .loop .inv .is k (omega (arith, c .before .loop .inv .long))
+unfolding numbersOf
+returns c = N.reading-ends (c .before .loop .inv) (omega arith)
 
 pub numbers-of-spec : {M : Type 1} → statement M
 numbers-of-spec =

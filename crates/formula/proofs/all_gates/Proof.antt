@@ -29,7 +29,7 @@ gate-clauses-requires c κs =
       pre .0,
       pre .1,
       c .before .if1 .taken,
-      record { place = omega (arith, loop .inv .1 .emits .few, pre .0 .gates-few, pre .2 .place); fewer = loop .inv .1 .emits .fewer },
+      record { place = omega (arith, loop .inv .1 .emits .few, pre .0 .counts .gates-few, pre .2 .place); fewer = loop .inv .1 .emits .fewer },
     )
 
 add-i : tie.Need-add-i Inv-loop μ-loop
@@ -51,7 +51,7 @@ returns c =
     let at = c .before .before in
     let s = start at in
     E.emitting-ends (s .args .shape .gates) gatesMost (at .loop .inv .1) (at .loop .inv .0) (c .if1 .left)
-    (omega (arith, s .pre .0 .gates-few))
+    (omega (arith, s .pre .0 .counts .gates-few))
 
 pub all-gates-spec : {M : Type 1} → statement M
 all-gates-spec =

@@ -2,7 +2,7 @@
 use mathlib.Core.Path.{refl, sym, _∙_}
 use lib.ListN.{length}
 use Rattle.netlist.proofs.Accepted.{holds}
-use Rattle.formula.proofs.Rows.{accepted, rejected}
+use Rattle.formula.proofs.Rows.{of-accepted, of-rejected}
 use borrow.Author.Needs.{needs}
 use Rattle.formula.proofs.build.Statement.{statement}
 use Rattle.formula.proofs.build.Tie as tie
@@ -33,7 +33,7 @@ returns c =
     let «open» = c .before .before .before .before .before .before .before .before .before .«open» in
     let args = c .before .before .before .before .before .before .before .before .before .before .before .before .args
     in
-    rw (accepted (args .file .now) (args .target) (length (args .pairs .now)) (length (args .formula .now)) _
+    rw (of-accepted (args .file .now) (args .target) (length (args .pairs .now)) (length (args .formula .now)) _
     (sym («open» .ensures) ∙ opened .given .1)) (build-from .ensures)
 
 enum-known-opened-2 : tie.Need-enum-known-opened-2
@@ -58,7 +58,7 @@ returns-2 c =
     let «open» = c .before .before .before .before .before .before .before .before .before .before .«open» in
     let args = c .before .before .before .before .before .before .before .before .before .before .before .before .before
     .args in
-    rw (rejected (args .file .now) (args .target) (length (args .pairs .now)) (length (args .formula .now)) _
+    rw (of-rejected (args .file .now) (args .target) (length (args .pairs .now)) (length (args .formula .now)) _
     (sym («open» .ensures) ∙ opened2 .given .1))
     (record { answer-is = refl; pairs-are = zero-u32 .ensures; formula-is = c .before .zero-i32 .ensures })
 

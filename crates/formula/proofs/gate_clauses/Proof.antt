@@ -66,7 +66,7 @@ simple-clauses-requires c κs =
       known .drivers,
       known .within,
       known .few,
-      omega (arith, pre .0 .inputs-few, pre .0 .gates-few),
+      omega (arith, pre .0 .counts .inputs-few, pre .0 .counts .gates-few),
       pre .3,
     )
 

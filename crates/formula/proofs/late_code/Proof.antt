@@ -1,5 +1,5 @@
--- `formula::late_code` meets its contract: each way out is a case of "late at t"; the search finds the pair's place.
--- Assumes nothing.
+-- `formula::late_code` meets its contract: each way out is a case of lateness (rule F2); the search finds the pair's
+-- place. Assumes nothing.
 use mathlib.Core.Path.{sym, ap}
 use Prim.Native.Nat.{_/_}
 use native.Mathlib.Omega.{arith}
@@ -8,7 +8,7 @@ use Rattle.pairs.specs.Promise.{Findable}
 use Rattle.pairs.proofs.Search.{begins-at}
 use Rattle.formula.specs.Late.{Lent, lent, partCode, variableIn}
 use Rattle.formula.proofs.Late.{
-  Found,
+  PlaceFound,
   positive,
   place-found,
   late-input,
@@ -41,7 +41,7 @@ listed c =
     begun c .pre .1 .listed (gate .if1 .left) (positive _ (c .before .if3 .left)) (omega arith)
 
 found : (c : tie.After-struct-known2) →
-    Found (begun (c .before .before) .args .table .now) (begun (c .before .before) .args .node)
+    PlaceFound (begun (c .before .before) .args .table .now) (begun (c .before .before) .args .node)
     (begun (c .before .before) .args .t) (c .before .place .result)
 found c =
     let args = begun (c .before .before) .args in

@@ -28,7 +28,7 @@ slice-aggregate-late-clause-2 c = search needs
 late-clause-requires : tie.Need-late-clause-requires
 late-clause-requires c κs =
     let pre = start (c .before .before .before .before .before) .pre in
-    let few = pre .0 .outputs-few in (
+    let few = pre .0 .counts .outputs-few in (
       omega arith,
       search needs,
       search needs,
@@ -43,7 +43,7 @@ returns : tie.Need-returns
 returns c =
     let read = c .before .before .before .before .before .before .before in
     emits-as outputsMost (c .before .late-clause .ensures) (late-outputs (read .read-asked .ensures))
-    (omega (arith, start read .pre .0 .outputs-few))
+    (omega (arith, start read .pre .0 .counts .outputs-few))
 
 pub output-clause-spec : {M : Type 1} → statement M
 output-clause-spec =

@@ -53,7 +53,7 @@ returns-4 c =
 returns-5 : tie.Need-returns-5
 returns-5 c =
     let pins = c .before .before .before in
-    Order.accepted
+    Order.all-passed
     (Order.pinned (gated (pins .before .before .before)) (pins .before .before .pin-place .ensures) (pins .if3 .left))
     (c .before .before .output-place .ensures) (c .if4 .left)
 

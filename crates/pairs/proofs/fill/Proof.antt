@@ -203,7 +203,7 @@ put-pair-requires c κs =
     let filling = turn .loop .inv .0 .filling in
     let holds = start turn .pre .0 in (
       omega (arith, filling .len, filling .room),
-      omega (arith, filling .nodes, holds .inputs-few, holds .gates-few),
+      omega (arith, filling .nodes, holds .counts .inputs-few, holds .counts .gates-few),
       omega (arith, time (c .before .before)),
     )
 

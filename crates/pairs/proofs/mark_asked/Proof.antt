@@ -28,7 +28,7 @@ mark-output-requires c κs = (c .before .before .before .before .pre .1, c .befo
 add-i : tie.Need-add-i Inv-loop μ-loop
 add-i c =
     let given = c .before .before .before .before .before .before .before .pre in
-    omega (arith, given .3, given .1 .inputs-few, given .1 .gates-few)
+    omega (arith, given .3, given .1 .counts .inputs-few, given .1 .counts .gates-few)
 
 sub-i : tie.Need-sub-i Inv-loop μ-loop
 sub-i c = omega (arith, c .before .before .before .before .before .before .before .before .pre .2)

@@ -31,7 +31,7 @@ gate-at-requires c κs = (c .before .before .before .pre .1 .tables, c .before .
 add-node : tie.Need-add-node Inv-loop μ-loop
 add-node c =
     let holds = c .before .before .before .before .before .pre .1 in
-    omega (arith, holds .inputs-few, holds .gates-few)
+    omega (arith, holds .counts .inputs-few, holds .counts .gates-few)
 
 loop-holds : tie.Need-loop-holds Inv-loop μ-loop
 loop-holds c = (omega arith, refl, gate-starts)
@@ -67,7 +67,7 @@ mark-pin-requires c κs =
     let given = start turn .pre in
     let pin = turn .before .before .gate-at .result .first + turn .loop .k in (
       given .0,
-      omega (arith, given .1 .inputs-few, given .1 .gates-few),
+      omega (arith, given .1 .counts .inputs-few, given .1 .counts .gates-few),
       omega (arith, c .before .delay-at .ensures .0, given .1 .delays-small pin (omega (arith, within turn))),
       given .3,
       omega (arith, given .4, turn .loop .inv .1),

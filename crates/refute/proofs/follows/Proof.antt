@@ -88,11 +88,11 @@ ends : (c : tie.At-loop2 Inv-loop3 μ-loop3 Inv-loop2 μ-loop2 Inv-loop μ-loop 
 ends c = rw (c .before .list-of .ensures) (P.stored-ends (list-at c .loop .which) (start (pass-at c) .pre))
 
 -- a whole clause was read, or left where there was nothing more to say
-closed : (c : tie.Joined2 Inv-loop3 μ-loop3 Inv-loop2 μ-loop2 Inv-loop μ-loop Inv-passes μ-passes) →
-    P.Closed (clause-at (c .before) .before .list-of .result .now) (list-at (clause-at (c .before)) .loop .marks)
+read-through : (c : tie.Joined2 Inv-loop3 μ-loop3 Inv-loop2 μ-loop2 Inv-loop μ-loop Inv-passes μ-passes) →
+    P.ReadThrough (clause-at (c .before) .before .list-of .result .now) (list-at (clause-at (c .before)) .loop .marks)
     (list-at (clause-at (c .before)) .loop .changed) (clause-at (c .before) .loop2 .marks)
     (clause-at (c .before) .loop2 .changed) (clause-at (c .before) .loop2 .at) (c .if2 .scan) (c .if2 .next)
-closed c =
+read-through c =
     let v = clause-at (c .before) .loop2 .inv .1 in
     let b = c .before .before .loop3 .inv in
     ⊎-elim
@@ -219,22 +219,22 @@ slice-write-marks :
     Inv-passes
     μ-passes
 slice-write-marks c =
-    P.unit-within (closed (c .before .before .before .before) .spoken .lone (c .if5 .taken))
+    P.unit-within (read-through (c .before .before .before .before) .spoken .lone (c .if5 .taken))
 
 add-at : tie.Need-add-at Inv-loop3 μ-loop3 Inv-loop2 μ-loop2 Inv-loop μ-loop Inv-passes μ-passes
-add-at c = omega (arith, closed (c .before .before .before .before .before) .within)
+add-at c = omega (arith, read-through (c .before .before .before .before .before) .within)
 
 loop2-less :
     tie.Need-loop2-less Inv-loop3 μ-loop3 Inv-loop2 μ-loop2 Inv-loop μ-loop Inv-passes μ-passes
 loop2-less c =
-    let k = closed (c .before .before .before .before .before) in
+    let k = read-through (c .before .before .before .before .before) in
     omega (arith, k .above, k .within)
 
 loop2-again :
     tie.Need-loop2-again Inv-loop3 μ-loop3 Inv-loop2 μ-loop2 Inv-loop μ-loop Inv-passes μ-passes
 loop2-again c = (
   clause-at (c .before .before .before .before .before .before) .loop2 .inv .0,
-  let k = closed (c .before .before .before .before .before) in
+  let k = read-through (c .before .before .before .before .before) in
       ⊎-elim (λ w. rw (w .1, w .2) (P.visiting-unit k (k .spoken .lone (w .0 .taken))))
       (λ w. rw (w .1, w .2) (P.visiting-quiet k (k .spoken .more (c .before .before .before .if4 .left) (w .0 .left))))
       (c .before .if5 .came),
@@ -284,7 +284,7 @@ returns-2 c =
     (p .before .if1 .left)
     (P.hit-ends (p .passes .inv .1)
     (P.passing-hit (list-at k .loop .inv .1) (k .before .before .loop-test .taken) (k .before .list-of .ensures)
-    (P.visiting-hit (closed (c .before .before)) (closed (c .before .before) .spoken .none (c .if4 .taken)))))
+    (P.visiting-hit (read-through (c .before .before)) (read-through (c .before .before) .spoken .none (c .if4 .taken)))))
 
 same-length-3 :
     tie.Need-same-length-3 Inv-loop3 μ-loop3 Inv-loop2 μ-loop2 Inv-loop μ-loop Inv-passes μ-passes

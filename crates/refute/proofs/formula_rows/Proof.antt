@@ -7,7 +7,7 @@ use Rattle.refute.proofs.formula_rows.Tie as tie
 
 returns : tie.Need-returns
 unfolding formulaRows
-returns c = rw (lt-ltb 100000 _ (c .if1 .taken))
+returns c = rw (lt-ltb _ _ (c .if1 .taken))
 
 first-beyond-requires : tie.Need-first-beyond-requires
 first-beyond-requires c κs = search needs
@@ -15,7 +15,7 @@ first-beyond-requires c κs = search needs
 returns-2 : tie.Need-returns-2
 unfolding formulaRows
 returns-2 c =
-    rw (le-ltb 100000 _ (c .before .before .if1 .left), ← c .before .first-beyond .ensures, lt-ltb _ _ (c .if2 .taken))
+    rw (le-ltb _ _ (c .before .before .if1 .left), ← c .before .first-beyond .ensures, lt-ltb _ _ (c .if2 .taken))
 
 is-ended-requires : tie.Need-is-ended-requires
 is-ended-requires c κs = search needs
@@ -24,7 +24,7 @@ returns-3 : tie.Need-returns-3
 unfolding formulaRows
 returns-3 c =
     rw (
-      le-ltb 100000 _ (c .before .before .before .before .if1 .left),
+      le-ltb _ _ (c .before .before .before .before .if1 .left),
       ← c .before .before .before .first-beyond .ensures,
       le-ltb _ _ (c .before .before .if2 .left),
       ← c .before .is-ended .ensures,
@@ -35,7 +35,7 @@ returns-4 : tie.Need-returns-4
 unfolding formulaRows
 returns-4 c =
     rw (
-      le-ltb 100000 _ (c .before .before .before .before .if1 .left),
+      le-ltb _ _ (c .before .before .before .before .if1 .left),
       ← c .before .before .before .first-beyond .ensures,
       le-ltb _ _ (c .before .before .if2 .left),
       ← c .before .is-ended .ensures,

@@ -38,7 +38,7 @@ returns c =
     let after = known .before .before in
     let s = after .before .before .before .before .before in
     rw
-    (L.accepted (s .args .file .now) (s .args .vector .now) (length (s .args .values .now))
+    (L.of-accepted (s .args .file .now) (s .args .vector .now) (length (s .args .values .now))
     (length (s .args .times .now)) _ (sym (after .open .ensures) ∙ known .opened .given .1))
     (call .evaluate-accepted .ensures)
 
@@ -55,7 +55,7 @@ returns-2 c =
     let after = known .before .before in
     let s = after .before .before .before .before .before in
     rw
-    (L.rejected (s .args .file .now) (s .args .vector .now) (length (s .args .values .now))
+    (L.of-rejected (s .args .file .now) (s .args .vector .now) (length (s .args .values .now))
     (length (s .args .times .now)) _ (sym (after .open .ensures) ∙ known .opened2 .given .1))
     (call .refuse .ensures)
 

@@ -34,7 +34,7 @@ loop-holds c = L.gating-starts (c .before .before .before .pre .0) (c .before .b
 add-node : tie.Need-add-node Inv-loop μ-loop
 add-node c =
     let h = c .before .before .before .before .before .pre .0 in
-    omega (arith, h .inputs-few, h .gates-few)
+    omega (arith, h .counts .inputs-few, h .counts .gates-few)
 
 gate-at-requires : tie.Need-gate-at-requires Inv-loop μ-loop
 gate-at-requires c κs = (c .before .before .before .before .before .pre .0 .tables, c .loop-test .taken)
@@ -70,7 +70,7 @@ slice-write-values c = within (c .before .before .before .before .before) .0
 mul-times : tie.Need-mul-times Inv-loop μ-loop
 mul-times c =
     let h = c .before .before .before .before .before .before .before .before .before .before .pre .0 in
-    omega (arith, h .inputs-few, h .gates-few)
+    omega (arith, h .counts .inputs-few, h .counts .gates-few)
 
 slice-write-times : tie.Need-slice-write-times Inv-loop μ-loop
 slice-write-times c = within (c .before .before .before .before .before) .1

@@ -15,7 +15,7 @@ enum-known-shape c = search needs
 add-result : tie.Need-add-result
 add-result c =
     let h = holds _ _ (sym (c .before .before .before .before .open .ensures) ∙ c .before .before .shape .given .1) in
-    omega (arith, h .inputs-few, h .gates-few)
+    omega (arith, h .counts .inputs-few, h .counts .gates-few)
 
 enum-told : tie.Need-enum-told
 enum-told c = search needs

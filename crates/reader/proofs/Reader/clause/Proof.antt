@@ -110,8 +110,8 @@ module _ {M : Type 1} (𝓤 : URA M) (H : Heap 𝓤) (A : Atoms 𝓤) (W : Given
   mach = T′.lowered d
 
   -- what is known of the result
-  abbrev Found : RefT (List ℤ) → Type 0
-  Found r = PartAt (d .formula) (d .at) r
+  abbrev ClauseFound : RefT (List ℤ) → Type 0
+  ClauseFound r = PartAt (d .formula) (d .at) r
 
   abbrev Post : Val → SProp 𝓤
   Post =
@@ -124,11 +124,11 @@ module _ {M : Type 1} (𝓤 : URA M) (H : Heap 𝓤) (A : Atoms 𝓤) (W : Given
   -- of the callee's `ensured`, the clause alone: it has no `&mut`, so what is said of last values is dropped
   said : (r : RefT (List ℤ)) →
       ent 𝓤 (ensured 𝓤 H A callee.ended (callee.clauses 𝓤 H A mem run) (κ, tt) (d .formula, (d .at, tt)) tt r)
-      (fact 𝓤 (Found r))
+      (fact 𝓤 (ClauseFound r))
   said r =
-      exE 𝓤 _ (λ ws. snd∗ 𝓤 (sem 𝓤 H A (lasts callee.ended (κ, tt) (d .formula, (d .at, tt)) ws)) (fact 𝓤 (Found r)))
+      exE 𝓤 _ (λ ws. snd∗ 𝓤 (sem 𝓤 H A (lasts callee.ended (κ, tt) (d .formula, (d .at, tt)) ws)) (fact 𝓤 (ClauseFound r)))
 
-  exits : (r : RefT (List ℤ)) (u : Val) → Found r →
+  exits : (r : RefT (List ℤ)) (u : Val) → ClauseFound r →
       ent 𝓤 (⋆ 𝓤 H A (‵ (R κ .own r (u ∷ [])) ∷ (‵ (flft κ q) ⊛ ‵ ftrue) ∷ ‵ (Own κ d) ∷ [])) (Post u)
   exits r u e =
       qed W (‵ (R κ .own r (u ∷ [])) ∷ (‵ (flft κ q) ⊛ ‵ ftrue) ∷ ‵ (Own κ d) ∷ []) ∵
@@ -159,8 +159,8 @@ module _ {M : Type 1} (𝓤 : URA M) (H : Heap 𝓤) (A : Atoms 𝓤) (W : Given
         ((‵ (flft κ q) ⊛ ‵ ftrue) ⊛ ‵ (R κ .own r (u ∷ []))) ⊛ raw
         (ensured 𝓤 H A callee.ended (callee.clauses 𝓤 H A mem run) (κ, tt) (d .formula, (d .at, tt)) tt r))))
         (id⊢ 𝓤 _) $ await ! tt $ pick ! (λ r.
-        split ! $ move ! (1 ∷ []) $ use1 W (raw (fact 𝓤 (Found r))) (said r) $
-        heard ! (Found r) (λ e. split ! $ move ! (1 ∷ []) $
+        split ! $ move ! (1 ∷ []) $ use1 W (raw (fact 𝓤 (ClauseFound r))) (said r) $
+        heard ! (ClauseFound r) (λ e. split ! $ move ! (1 ∷ []) $
         -- [the result; the token; what the struct owns; _3; …; _2; …; _1; …; room for _0; …]
         peeks ! (R κ) (Is (R κ)) (shows 𝓤 H A (R κ)) r (u ∷ []) (λ is.
         land ! (from ! (stop !)) (init ! 9 refl (shr-slice-lawful 𝓤 H A W (named 0) κ i32 .typed r _ is .0)) $

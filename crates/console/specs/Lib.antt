@@ -1,0 +1,2 @@
+-- Interface: Reading (numbers out of the bytes that came).
+pub mod Reading

@@ -1,0 +1,179 @@
+-- Building calls on one gate of each kind, on circuit A at every target that changes something, its top among them,
+-- and calls with two faults, where the earlier row answers: rows of the proved table, beside Cases. Interface: Case,
+-- edges, edges-hold, capacities-hold.
+use mathlib.Core.Path.{_≡_, refl}
+use mathlib.Core.List.{List, [], _∷_, _++_, map}
+use Prim.Native.Nat.{ℕ, zero, suc, _/_}
+use lib.IntN.{ℤ, pos, negsuc}
+use lib.ListN.{length, replicate}
+use Rattle.basics.specs.Lists.{concatMap}
+use Rattle.refusal.specs.declared.Refusal.{Refusal}
+use Rattle.refusal.specs.declared.Refusal.the-variants.{Short, Gate, Pairs, Room}
+use Rattle.netlist.specs.Kinds.{kinds, kindRow}
+use Rattle.netlist.specs.File.{tableBytes, shapeOf, gateAt, pinAt, cellOf, cellAt, netlistAt, pinsFrom}
+use Rattle.netlist.specs.Open.{
+  netlistRows,
+  firstWrong,
+  countWrong,
+  backWrong,
+  pinsBefore,
+  gateWrong,
+  gatePlace,
+  sumWrong,
+  pinsAt,
+  pinWrong,
+  pinPlace,
+  outputWrong,
+  outputPlace,
+}
+use Rattle.netlist.specs.Example.{circuitA}
+use Rattle.netlist.specs.Edges.{written, oneGate}
+use Rattle.settle.specs.Settling.{grow, topsOf}
+use Rattle.settle.specs.Cases.{xorTwice, muxOfThree}
+use Rattle.clauses.specs.Clauses.{flat}
+use Rattle.pairs.specs.Pairs.{asked, timesAt, pairList, flatPairs, pairsFor, pairPlace}
+use Rattle.formula.specs.declared.Built.the-variants.{Formula}
+use Rattle.formula.specs.Formula.{clauseOf, gateClauses, late, pairClauses, formula, pairVariable, formulaFor}
+use Rattle.formula.specs.Promise.{
+  Building,
+  refused,
+  numbersFor,
+  countsFor,
+  built,
+  buildingRows,
+  building,
+}
+use Rattle.pairs.specs.Promise.{tableHolds}
+use Rattle.formula.specs.Example.{printed}
+use Rattle.formula.specs.Cases.{gateLines}
+
+-- a row: a file, a target, and what a call leaves, whose slices are as long as those lent
+pub record Case : Type 0 where
+  pub file : List ℕ
+  pub target : ℕ
+  pub leaves : Building
+
+-- a literal: n, or -n
+abbrev on : ℕ → ℤ
+on n = pos n
+
+abbrev off : ℕ → ℤ
+off (suc n) = negsuc n
+off zero = pos 0
+
+-- clauses, each with its 0
+abbrev lines : List (List ℤ) → List ℤ
+lines clauses = concatMap (λ (c : List ℤ). c ++ (pos 0 ∷ [])) clauses
+
+-- file, target; variables, count of clauses, the table of pairs, the numbers
+abbrev builds : List ℕ → ℕ → ℕ → ℕ → List ℕ → List ℤ → Case
+builds file target variables clauses pairs numbers =
+    record {
+      file = file;
+      target = target;
+      leaves =
+          record {
+            answer =
+                Formula
+                (record {
+                  variables = variables;
+                  pairs = length pairs / 2;
+                  clauses = clauses;
+                  numbers = length numbers;
+                });
+            pairs = pairs;
+            formula = numbers;
+          };
+    }
+
+-- file, target, the two rooms, and the refusal
+abbrev refuses : List ℕ → ℕ → ℕ → ℕ → Refusal → Case
+refuses file target pairsRoom formulaRoom refusal =
+    record { file = file; target = target; leaves = refused pairsRoom formulaRoom refusal }
+
+-- a simple gate of two pins, ready at 2 and 1, at its top: three clauses, then the second pin's, which is not late; the
+-- first pin is late outright
+abbrev simple : ℕ → List (List ℤ) → ℤ → Case
+simple kind clauses control =
+    builds (oneGate kind (2 ∷ 1 ∷ [])) 2 4 5 (2 ∷ 2 ∷ [])
+    (lines (clauses ++ ((off 4 ∷ control ∷ []) ∷ (on 4 ∷ []) ∷ [])))
+
+-- BUF, NOT, AND, NAND, OR, NOR, XOR, XNOR, MUX at their tops; XOR of one input twice, whose repeated and opposite
+-- literals stay; two outputs in order
+unfoldable pub everyKind : List Case
+everyKind =
+    builds (oneGate 1 (3 ∷ [])) 3 3 3 (1 ∷ 3 ∷ [])
+    (lines ((on 1 ∷ off 2 ∷ []) ∷ (off 1 ∷ on 2 ∷ []) ∷ (on 3 ∷ []) ∷ []))
+    ∷ builds (oneGate 2 (3 ∷ [])) 3 3 3 (1 ∷ 3 ∷ [])
+    (lines ((on 1 ∷ on 2 ∷ []) ∷ (off 1 ∷ off 2 ∷ []) ∷ (on 3 ∷ []) ∷ []))
+    ∷ simple 3 ((on 1 ∷ off 3 ∷ []) ∷ (on 2 ∷ off 3 ∷ []) ∷ (off 1 ∷ off 2 ∷ on 3 ∷ []) ∷ []) (on 2)
+    ∷ simple 4 ((on 1 ∷ on 3 ∷ []) ∷ (on 2 ∷ on 3 ∷ []) ∷ (off 1 ∷ off 2 ∷ off 3 ∷ []) ∷ []) (on 2)
+    ∷ simple 5 ((off 1 ∷ on 3 ∷ []) ∷ (off 2 ∷ on 3 ∷ []) ∷ (on 1 ∷ on 2 ∷ off 3 ∷ []) ∷ []) (off 2)
+    ∷ simple 6 ((off 1 ∷ off 3 ∷ []) ∷ (off 2 ∷ off 3 ∷ []) ∷ (on 1 ∷ on 2 ∷ on 3 ∷ []) ∷ []) (off 2)
+    ∷ builds (oneGate 7 (2 ∷ 1 ∷ [])) 2 4 5 (2 ∷ 2 ∷ [])
+    (lines
+    ((on 1 ∷ on 2 ∷ off 3 ∷ []) ∷ (on 1 ∷ off 2 ∷ on 3 ∷ []) ∷ (off 1 ∷ on 2 ∷ on 3 ∷ [])
+    ∷ (off 1 ∷ off 2 ∷ off 3 ∷ []) ∷ (on 4 ∷ []) ∷ []))
+    ∷ builds (oneGate 8 (2 ∷ 1 ∷ [])) 2 4 5 (2 ∷ 2 ∷ [])
+    (lines
+    ((on 1 ∷ on 2 ∷ on 3 ∷ []) ∷ (on 1 ∷ off 2 ∷ off 3 ∷ []) ∷ (off 1 ∷ on 2 ∷ off 3 ∷ [])
+    ∷ (off 1 ∷ off 2 ∷ on 3 ∷ []) ∷ (on 4 ∷ []) ∷ []))
+    ∷ builds muxOfThree 9 5 5 (3 ∷ 9 ∷ [])
+    (lines
+    ((on 1 ∷ off 2 ∷ on 4 ∷ []) ∷ (on 1 ∷ on 2 ∷ off 4 ∷ []) ∷ (off 1 ∷ off 3 ∷ on 4 ∷ [])
+    ∷ (off 1 ∷ on 3 ∷ off 4 ∷ []) ∷ (on 5 ∷ []) ∷ []))
+    ∷ builds xorTwice 4 3 5 (1 ∷ 4 ∷ [])
+    (lines
+    ((on 1 ∷ on 1 ∷ off 2 ∷ []) ∷ (on 1 ∷ off 1 ∷ on 2 ∷ []) ∷ (off 1 ∷ on 1 ∷ on 2 ∷ [])
+    ∷ (off 1 ∷ off 1 ∷ off 2 ∷ []) ∷ (on 3 ∷ []) ∷ []))
+    ∷ builds (written 1 ((1, 1, 0) ∷ (1, 1, 1) ∷ []) ((0, 1) ∷ (0, 1) ∷ []) (1 ∷ 2 ∷ [])) 1 5 5
+    (1 ∷ 1 ∷ 2 ∷ 1 ∷ [])
+    (lines
+    ((on 1 ∷ off 2 ∷ []) ∷ (off 1 ∷ on 2 ∷ []) ∷ (on 1 ∷ off 3 ∷ []) ∷ (off 1 ∷ on 3 ∷ [])
+    ∷ (on 4 ∷ on 5 ∷ []) ∷ [])) ∷ []
+
+-- circuit A at 0, where the output is late outright, at 1, 2 and 5, its top (3 and 6 are in Cases), and at the largest
+-- target
+unfoldable pub targets : List Case
+targets =
+    builds circuitA 0 5 8 [] gateLines
+    ∷ builds circuitA 1 6 9 (4 ∷ 1 ∷ []) (gateLines ++ lines ((on 6 ∷ []) ∷ []))
+    ∷ builds circuitA 2 7 12 (3 ∷ 1 ∷ 4 ∷ 2 ∷ [])
+    (gateLines
+    ++ lines ((off 7 ∷ on 6 ∷ []) ∷ (off 7 ∷ on 6 ∷ off 4 ∷ []) ∷ (off 7 ∷ off 2 ∷ []) ∷ (on 7 ∷ []) ∷ []))
+    ∷ builds circuitA 5 8 15 (2 ∷ 3 ∷ 3 ∷ 4 ∷ 4 ∷ 5 ∷ []) printed
+    ∷ builds circuitA 4294967295 5 9 [] (gateLines ++ lines ([] ∷ [])) ∷ []
+
+-- 1 to 7 before 10; 10 before 9; each slice one short
+unfoldable pub orders : List Case
+orders =
+    refuses [] 3 0 0 (Short 0)
+    ∷ refuses (oneGate 10 (1 ∷ [])) 1 0 0 (Gate 0)
+    ∷ refuses circuitA 3 5 47 Pairs
+    ∷ refuses circuitA 3 0 0 Pairs
+    ∷ refuses circuitA 3 6 0 (Room 48)
+    ∷ refuses circuitA 0 0 25 (Room 26)
+    ∷ refuses circuitA 6 0 26 (Room 27) ∷ []
+
+-- all of them
+unfoldable pub edges : List Case
+edges = everyKind ++ (targets ++ orders)
+
+-- each call leaves so
+pub edges-hold :
+    map
+    (λ (c : Case). building (c .file) (c .target) (length (c .leaves .pairs)) (length (c .leaves .formula))) edges
+    ≡ map (λ (c : Case). c .leaves) edges
+unfolding
+    edges everyKind targets orders written oneGate circuitA xorTwice muxOfThree netlistRows firstWrong countWrong backWrong
+    pinsBefore gateWrong gatePlace sumWrong pinsAt pinWrong pinPlace outputWrong outputPlace kinds kindRow
+    tableBytes shapeOf gateAt pinAt pinsFrom cellOf cellAt netlistAt grow topsOf flat asked timesAt pairList flatPairs
+    pairsFor pairPlace clauseOf gateClauses late pairClauses formula pairVariable formulaFor numbersFor countsFor built
+    buildingRows building printed gateLines
+edges-hold = refl
+
+-- the pairs that a table of so many numbers holds: half as many, and 65,536 at most
+pub capacities-hold :
+    map tableHolds (0 ∷ 1 ∷ 2 ∷ 131071 ∷ 131072 ∷ 131073 ∷ 131074 ∷ 4294967295 ∷ [])
+    ≡ 0 ∷ 0 ∷ 1 ∷ 65535 ∷ 65536 ∷ 65536 ∷ 65536 ∷ 65536 ∷ []
+capacities-hold = refl

@@ -1,0 +1,270 @@
+/* The C interface as a host sees it: where each field of the answers lies, which parameters each function takes in which
+ * order, and each function called twice, accepted and refused, with arguments that no exchange survives.
+ *
+ * No contract of the library speaks of the order of fields and parameters; this program does. It is compiled against
+ * include/buzzlumen.h and linked with the archive. First every call must answer as the rules say of circuit A. Then
+ * each two parameters and each two fields of one type are exchanged, one exchange at a time, and some answer must
+ * change. Prints the exchanges that nothing tells apart, and a count; ends with 1 where there is one, or where a call
+ * answers wrongly. Assumes a little endian machine.
+ */
+#include "buzzlumen.h"
+
+#include <stdio.h>
+#include <string.h>
+
+#define LIES(type, field, offset, bytes) \
+    _Static_assert(offsetof(type, field) == (offset) && sizeof(((type *)0)->field) == (bytes), #type "." #field)
+#define SIZE(type, bytes) _Static_assert(sizeof(type) == (bytes), #type)
+
+LIES(buzzlumen_evaluated, number, 0, 4);
+LIES(buzzlumen_evaluated, time, 4, 4);
+LIES(buzzlumen_evaluated, place, 8, 8);
+SIZE(buzzlumen_evaluated, 16);
+LIES(buzzlumen_built, number, 0, 4);
+LIES(buzzlumen_built, variables, 4, 4);
+LIES(buzzlumen_built, place, 8, 8);
+LIES(buzzlumen_built, clauses, 16, 8);
+LIES(buzzlumen_built, numbers, 24, 8);
+LIES(buzzlumen_built, pairs, 32, 8);
+SIZE(buzzlumen_built, 40);
+LIES(buzzlumen_checked, number, 0, 4);
+LIES(buzzlumen_checked, place, 8, 8);
+SIZE(buzzlumen_checked, 16);
+LIES(buzzlumen_judged, number, 0, 4);
+LIES(buzzlumen_judged, place, 8, 8);
+SIZE(buzzlumen_judged, 16);
+
+/* The functions by their types: a slice is a pointer, then a length in elements. */
+static buzzlumen_evaluated (*const evaluate)(const uint8_t *, size_t, const uint8_t *, size_t, uint8_t *, size_t,
+                                             uint32_t *, size_t) = buzzlumen_evaluate;
+static buzzlumen_built (*const build)(const uint8_t *, size_t, uint32_t, uint32_t *, size_t, int32_t *,
+                                      size_t) = buzzlumen_build;
+static buzzlumen_checked (*const check)(uint32_t, const int32_t *, size_t, const int32_t *, size_t, uint8_t *,
+                                        size_t) = buzzlumen_check;
+static buzzlumen_judged (*const judge)(const uint8_t *, size_t, uint32_t, const uint8_t *, size_t, const int32_t *,
+                                       size_t, uint8_t *, size_t, uint32_t *, size_t, uint32_t *, size_t, int32_t *,
+                                       size_t, uint8_t *, size_t) = buzzlumen_judge;
+
+/* What is exchanged: two slices of one element type, or two fields of one type. */
+typedef enum {
+    NOTHING,
+    EVALUATE_NETLIST_VECTOR,
+    EVALUATE_NUMBER_TIME,
+    BUILD_NUMBER_VARIABLES,
+    BUILD_PLACE_CLAUSES,
+    BUILD_PLACE_NUMBERS,
+    BUILD_PLACE_PAIRS,
+    BUILD_CLAUSES_NUMBERS,
+    BUILD_CLAUSES_PAIRS,
+    BUILD_NUMBERS_PAIRS,
+    CHECK_FORMULA_REFUTATION,
+    JUDGE_NETLIST_VECTOR,
+    JUDGE_REFUTATION_FORMULA,
+    JUDGE_VALUES_PROPAGATION,
+    JUDGE_TIMES_PAIRS,
+    EXCHANGES
+} exchange;
+
+static const char *const names[EXCHANGES] = {
+    "nothing",
+    "evaluate: netlist and vector",
+    "evaluate: number and time",
+    "build: number and variables",
+    "build: place and clauses",
+    "build: place and numbers",
+    "build: place and pairs",
+    "build: clauses and numbers",
+    "build: clauses and pairs",
+    "build: numbers and pairs",
+    "check: formula and refutation",
+    "judge: netlist and vector",
+    "judge: refutation and formula",
+    "judge: values and propagation",
+    "judge: times and pairs",
+};
+
+enum { MOST = 64, PATTERN = 0x5A };
+
+/* A slice of a block that is filled with a pattern: the elements behind the length must stay as they are. */
+typedef struct {
+    union {
+        uint8_t bytes[MOST * 4];
+        uint32_t words[MOST];
+        int32_t numbers[MOST];
+    };
+    size_t length;
+} lent;
+
+static lent room(size_t length)
+{
+    lent it;
+    memset(it.bytes, PATTERN, sizeof it.bytes);
+    it.length = length;
+    return it;
+}
+
+static lent copied(const void *from, size_t length, size_t element)
+{
+    lent it = room(length);
+    memcpy(it.bytes, from, length * element);
+    return it;
+}
+
+/* Whether a slice of so many elements holds these and zeros, and nothing behind it was written. */
+static int holds(const lent *it, size_t element, const void *from, size_t count)
+{
+    size_t end = it->length * element;
+    if (memcmp(it->bytes, from, count * element) != 0)
+        return 0;
+    for (size_t i = count * element; i < sizeof it->bytes; i++)
+        if (it->bytes[i] != (i < end ? 0 : PATTERN))
+            return 0;
+    return 1;
+}
+
+static void swap_slices(lent *a, lent *b)
+{
+    lent kept = *a;
+    *a = *b;
+    *b = kept;
+}
+
+static void swap_words(uint32_t *a, uint32_t *b)
+{
+    uint32_t kept = *a;
+    *a = *b;
+    *b = kept;
+}
+
+static void swap_large(uint64_t *a, uint64_t *b)
+{
+    uint64_t kept = *a;
+    *a = *b;
+    *b = kept;
+}
+
+/* Circuit A, its values and times under 1,0, its pairs and its formula at 3. */
+static const uint8_t circuit[48] = {
+    1, 1, 0, 0, 3, 2, 1, 0, 5, 2, 3, 0, 0, 0, 3, 0, 2, 0, 1, 0, 1, 0, 1, 0,
+    3, 0, 1, 0, 1, 0, 1, 0, 4, 0, 34, 0, 0, 0, 2, 0, 3, 0, 5, 0, 1, 0, 1, 0,
+};
+static const uint8_t one_zero[2] = {1, 0}, zero_one[2] = {0, 1};
+static const uint8_t values_of_a[5] = {1, 0, 1, 0, 0};
+static const uint32_t times_of_a[5] = {0, 0, 3, 1, 2};
+static const uint32_t pairs_of_a[6] = {2, 1, 3, 2, 4, 3};
+static const int32_t formula_of_a[48] = {
+    1, -3, 0, -1, 3, 0, 3, -4, 0, 2, -4, 0, -3, -2, 4, 0, -4, 5, 0, -2, 5, 0, 4, 2, -5, 0,
+    -7, 6, 0, -7, 6, 3, 0, -7, 2, 0, -8, 7, 0, -8, 7, -4, 0, -8, -2, 0, 8, 0,
+};
+static const int32_t empty_clause[1] = {0};
+
+/* Under 1,0 circuit A settles at 2; a file of 5 bytes is SHORT, 5. */
+static int evaluates(exchange which, size_t bytes)
+{
+    lent netlist = copied(circuit, bytes, 1), vector = copied(one_zero, 2, 1), values = room(6), times = room(7);
+    if (which == EVALUATE_NETLIST_VECTOR)
+        swap_slices(&netlist, &vector);
+    buzzlumen_evaluated answer = evaluate(netlist.bytes, netlist.length, vector.bytes, vector.length, values.bytes,
+                                          values.length, times.words, times.length);
+    if (which == EVALUATE_NUMBER_TIME)
+        swap_words(&answer.number, &answer.time);
+    if (bytes < 14)
+        return answer.number == 1 && answer.time == 0 && answer.place == bytes && holds(&values, 1, NULL, 0)
+               && holds(&times, 4, NULL, 0);
+    return answer.number == 0 && answer.time == 2 && answer.place == 0 && holds(&values, 1, values_of_a, 5)
+           && holds(&times, 4, times_of_a, 5);
+}
+
+/* At 3: 8 variables, 15 clauses, 48 numbers, 3 pairs; with room for 47 numbers it is ROOM, 48. */
+static int builds(exchange which, size_t numbers)
+{
+    lent netlist = copied(circuit, 48, 1), pairs = room(8), formula = room(numbers);
+    buzzlumen_built answer =
+        build(netlist.bytes, netlist.length, 3, pairs.words, pairs.length, formula.numbers, formula.length);
+    if (which == BUILD_NUMBER_VARIABLES)
+        swap_words(&answer.number, &answer.variables);
+    if (which == BUILD_PLACE_CLAUSES)
+        swap_large(&answer.place, &answer.clauses);
+    if (which == BUILD_PLACE_NUMBERS)
+        swap_large(&answer.place, &answer.numbers);
+    if (which == BUILD_PLACE_PAIRS)
+        swap_large(&answer.place, &answer.pairs);
+    if (which == BUILD_CLAUSES_NUMBERS)
+        swap_large(&answer.clauses, &answer.numbers);
+    if (which == BUILD_CLAUSES_PAIRS)
+        swap_large(&answer.clauses, &answer.pairs);
+    if (which == BUILD_NUMBERS_PAIRS)
+        swap_large(&answer.numbers, &answer.pairs);
+    if (numbers < 48)
+        return answer.number == 9 && answer.variables == 0 && answer.place == 48 && answer.clauses == 0
+               && answer.numbers == 0 && answer.pairs == 0 && holds(&pairs, 4, NULL, 0) && holds(&formula, 4, NULL, 0);
+    return answer.number == 0 && answer.variables == 8 && answer.place == 0 && answer.clauses == 15
+           && answer.numbers == 48 && answer.pairs == 3 && holds(&pairs, 4, pairs_of_a, 6)
+           && holds(&formula, 4, formula_of_a, 48);
+}
+
+/* The four clauses over two variables: "1 0 0" passes; "1 0 2 0" has no empty clause, LAST, 2. */
+static int checks(exchange which, size_t steps)
+{
+    static const int32_t four[12] = {1, 2, 0, 1, -2, 0, -1, 2, 0, -1, -2, 0};
+    static const int32_t right[3] = {1, 0, 0}, wrong[4] = {1, 0, 2, 0};
+    lent formula = copied(four, 12, 4), refutation = copied(steps == 3 ? right : wrong, steps, 4), propagation = room(5);
+    if (which == CHECK_FORMULA_REFUTATION)
+        swap_slices(&formula, &refutation);
+    buzzlumen_checked answer = check(2, formula.numbers, formula.length, refutation.numbers, refutation.length,
+                                     propagation.bytes, propagation.length);
+    return answer.number == (steps == 3 ? 0 : 13) && answer.place == (steps == 3 ? 0 : 2)
+           && holds(&propagation, 1, NULL, 0);
+}
+
+/* Delay 2 with vector 1,0 and the refutation "0" is accepted; vector 0,1 settles at 1, WITNESS, 1. */
+static int judges(exchange which, const uint8_t *bits)
+{
+    lent netlist = copied(circuit, 48, 1), vector = copied(bits, 2, 1), refutation = copied(empty_clause, 1, 4);
+    lent values = room(6), times = room(7), pairs = room(8), formula = room(50), propagation = room(11);
+    if (which == JUDGE_NETLIST_VECTOR)
+        swap_slices(&netlist, &vector);
+    if (which == JUDGE_REFUTATION_FORMULA)
+        swap_slices(&refutation, &formula);
+    if (which == JUDGE_VALUES_PROPAGATION)
+        swap_slices(&values, &propagation);
+    if (which == JUDGE_TIMES_PAIRS)
+        swap_slices(&times, &pairs);
+    buzzlumen_judged answer =
+        judge(netlist.bytes, netlist.length, 2, vector.bytes, vector.length, refutation.numbers, refutation.length,
+              values.bytes, values.length, times.words, times.length, pairs.words, pairs.length, formula.numbers,
+              formula.length, propagation.bytes, propagation.length);
+    if (which == JUDGE_VALUES_PROPAGATION)
+        swap_slices(&values, &propagation);
+    if (which == JUDGE_TIMES_PAIRS)
+        swap_slices(&times, &pairs);
+    if (bits[1])
+        return answer.number == 15 && answer.place == 1 && holds(&values, 1, NULL, 0) && holds(&times, 4, NULL, 0)
+               && holds(&pairs, 4, NULL, 0) && holds(&formula, 4, NULL, 0) && holds(&propagation, 1, NULL, 0);
+    return answer.number == 0 && answer.place == 0 && holds(&values, 1, values_of_a, 5)
+           && holds(&times, 4, times_of_a, 5) && holds(&pairs, 4, pairs_of_a, 6) && holds(&formula, 4, formula_of_a, 48)
+           && holds(&propagation, 1, NULL, 0);
+}
+
+/* Whether every call answers as it should, with one exchange. */
+static int all_right(exchange which)
+{
+    return evaluates(which, 48) && evaluates(which, 5) && builds(which, 50) && builds(which, 47) && checks(which, 3)
+           && checks(which, 4) && judges(which, one_zero) && judges(which, zero_one);
+}
+
+int main(void)
+{
+    int wrong = 0;
+    if (!all_right(NOTHING)) {
+        printf("interface: a call answers wrongly\n");
+        wrong++;
+    }
+    for (exchange which = NOTHING + 1; which < EXCHANGES; which++)
+        if (all_right(which)) {
+            printf("interface: nothing tells this exchange: %s\n", names[which]);
+            wrong++;
+        }
+    printf("interface: 8 calls, %d exchanges, %d wrong\n", EXCHANGES - 1, wrong);
+    return wrong != 0;
+}
