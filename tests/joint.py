@@ -71,7 +71,7 @@ ROOM_FIRST = Joint("room for propagation is asked before LAST", "refute", "proof
 ))
 
 FEWER_PAIRS = Joint("more than 65,535 pairs are too many", "formula", "specs/Edges.antt", (
-    Text("pairs/specs/Promise.antt", "2) 65536", "2) 65535"),
+    Text("pairs/specs/Pairs.antt", "2) 65536", "2) 65535"),
     Text("pairs/src/lib.rt", "if half < 65536 { half } else { 65536 }", "if half < 65535 { half } else { 65535 }"),
 ))
 

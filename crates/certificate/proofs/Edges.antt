@@ -36,12 +36,12 @@ use Rattle.certificate.proofs.Examples.{answerTo, computed-hold}
 
 computed : map answerTo edges ≡ map (λ (c : Case). c .answer) edges
 unfolding
-    edges circuitA written oneGate netlistRows firstWrong countWrong backWrong pinsBefore gateWrong gatePlace sumWrong pinsAt
-    pinWrong pinPlace outputWrong outputPlace kinds kindRow tableBytes shapeOf gateAt pinAt pinsFrom cellOf cellAt
-    netlistAt gateValue settles grow valuesOf timesOf topsOf circuitTime byteWrong givenRows flat clausesFrom
+    edges circuitA written oneGate netlistRows firstWrong countWrong backWrong pinsBefore gateWrong gatePlace sumWrong
+    pinsAt pinWrong pinPlace outputWrong outputPlace kinds kindRow tableBytes shapeOf gateAt pinAt pinsFrom cellOf
+    cellAt netlistAt gateValue settles grow valuesOf timesOf topsOf circuitTime byteWrong givenRows flat clausesFrom
     isTrue isFree assign say pass refutes assert follows verdict refutationForm firstBeyond ended lastRow firstEmpty
-    asked timesAt pairList pairPlace pairsFor clauseOf gateClauses late pairClauses formula pairVariable
-    formulaFor numbersFor countsFor buildingRows
+    asked timesAt pairList pairPlace pairsFor clauseOf gateClauses late pairClauses formula pairVariable formulaFor
+    numbersFor countsFor buildingRows
 computed = refl
 
 -- each row's call has the row's answer

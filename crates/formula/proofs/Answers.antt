@@ -14,7 +14,7 @@ use Rattle.refusal.specs.declared.Checked.the-variants.{Passes, Refused as Fail
 use Rattle.refusal.specs.Rows.{checked, unlessRefused, roomRow}
 use Rattle.refusal.proofs.Rows.{passed-by}
 use Rattle.netlist.specs.Netlist.{Circuit}
-use Rattle.pairs.specs.Pairs.{pairsFor}
+use Rattle.pairs.specs.Pairs.{pairsFor, tableHolds}
 use Rattle.formula.specs.declared.Built.{Built}
 use Rattle.formula.specs.declared.Built.the-variants.{Formula, Refused}
 use Rattle.formula.specs.declared.Counts.{Counts}
@@ -26,7 +26,6 @@ use Rattle.formula.specs.Promise.{
   buildingRows,
   buildingOf,
 }
-use Rattle.pairs.specs.Promise.{tableHolds}
 
 module _ (circuit : Circuit) (target pairsRoom formulaRoom : ℕ) where
   module _ {answer : Built} (a : answer ≡ buildingOf circuit target pairsRoom formulaRoom .answer) where

@@ -20,7 +20,7 @@ use Rattle.netlist.proofs.Calls.{call-accepted, call-rejected}
 use Rattle.clauses.specs.Clauses.{flat}
 use Rattle.pairs.specs.declared.Listed.{Listed}
 use Rattle.pairs.specs.declared.Listed.the-variants.{Count, TooMany}
-use Rattle.pairs.specs.Pairs.{flatPairs, pairsFor}
+use Rattle.pairs.specs.Pairs.{flatPairs, pairsFor, tableHolds}
 use Rattle.pairs.specs.Promise.{pairsAt, Held}
 use Rattle.pairs.proofs.Flat.{flat-length}
 use Rattle.pairs.proofs.Whole.{held-count, held-too-many}
@@ -40,7 +40,6 @@ use Rattle.formula.specs.Promise.{
   buildingOf,
   building,
 }
-use Rattle.pairs.specs.Promise.{tableHolds}
 use Rattle.formula.specs.Emission.{start, Emits}
 use Rattle.formula.specs.declared.Side.the-variants.{Outputs}
 use Rattle.formula.specs.Late.{lent, wholeRun, AllStand, Served, Slices}

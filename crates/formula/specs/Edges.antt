@@ -31,7 +31,7 @@ use Rattle.netlist.specs.Edges.{written, oneGate}
 use Rattle.settle.specs.Settling.{grow, topsOf}
 use Rattle.settle.specs.Cases.{xorTwice, muxOfThree}
 use Rattle.clauses.specs.Clauses.{flat}
-use Rattle.pairs.specs.Pairs.{asked, timesAt, pairList, flatPairs, pairsFor, pairPlace}
+use Rattle.pairs.specs.Pairs.{asked, timesAt, pairList, flatPairs, pairsFor, pairPlace, tableHolds}
 use Rattle.formula.specs.declared.Built.the-variants.{Formula}
 use Rattle.formula.specs.Formula.{clauseOf, gateClauses, late, pairClauses, formula, pairVariable, formulaFor}
 use Rattle.formula.specs.Promise.{
@@ -43,7 +43,6 @@ use Rattle.formula.specs.Promise.{
   buildingRows,
   building,
 }
-use Rattle.pairs.specs.Promise.{tableHolds}
 use Rattle.formula.specs.Example.{printed}
 use Rattle.formula.specs.Cases.{gateLines}
 
@@ -165,11 +164,11 @@ pub edges-hold :
     (λ (c : Case). building (c .file) (c .target) (length (c .leaves .pairs)) (length (c .leaves .formula))) edges
     ≡ map (λ (c : Case). c .leaves) edges
 unfolding
-    edges everyKind targets orders written oneGate circuitA xorTwice muxOfThree netlistRows firstWrong countWrong backWrong
-    pinsBefore gateWrong gatePlace sumWrong pinsAt pinWrong pinPlace outputWrong outputPlace kinds kindRow
+    edges everyKind targets orders written oneGate circuitA xorTwice muxOfThree netlistRows firstWrong countWrong
+    backWrong pinsBefore gateWrong gatePlace sumWrong pinsAt pinWrong pinPlace outputWrong outputPlace kinds kindRow
     tableBytes shapeOf gateAt pinAt pinsFrom cellOf cellAt netlistAt grow topsOf flat asked timesAt pairList flatPairs
-    pairsFor pairPlace clauseOf gateClauses late pairClauses formula pairVariable formulaFor numbersFor countsFor built
-    buildingRows building printed gateLines
+    pairsFor pairPlace clauseOf gateClauses late pairClauses formula pairVariable formulaFor numbersFor countsFor
+    built buildingRows building printed gateLines
 edges-hold = refl
 
 -- the pairs that a table of so many numbers holds: half as many, and 65,536 at most

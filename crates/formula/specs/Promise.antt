@@ -15,8 +15,7 @@ use Rattle.clauses.specs.Clauses.{flat}
 use Rattle.formula.specs.declared.Built.{Built}
 use Rattle.formula.specs.declared.Built.the-variants.{Formula, Refused}
 use Rattle.formula.specs.declared.Counts.{Counts}
-use Rattle.pairs.specs.Pairs.{flatPairs, pairsFor}
-use Rattle.pairs.specs.Promise.{tableHolds}
+use Rattle.pairs.specs.Pairs.{flatPairs, pairsFor, tableHolds}
 use Rattle.formula.specs.Formula.{formulaFor}
 
 -- the answer, and the whole content of each lent slice

@@ -152,6 +152,6 @@ edges = frames ++ (counts ++ ends)
 -- each file is answered so
 pub edges-hold : map (λ (c : Case). openOf (c .file)) edges ≡ map (λ (c : Case). c .answer) edges
 unfolding
-    edges frames counts ends written oneGate openOf netlistRows firstWrong countWrong backWrong pinsBefore gateWrong gatePlace
-    sumWrong pinsAt pinWrong pinPlace outputWrong outputPlace kinds kindRow tableBytes shapeOf
+    edges frames counts ends written oneGate openOf netlistRows firstWrong countWrong backWrong pinsBefore gateWrong
+    gatePlace sumWrong pinsAt pinWrong pinPlace outputWrong outputPlace kinds kindRow tableBytes shapeOf
 edges-hold = refl

@@ -17,9 +17,9 @@ use Rattle.pairs.specs.declared.Filled.{Filled}
 use Rattle.pairs.specs.declared.Filled.the-variants.{From, Full}
 use Rattle.pairs.specs.declared.Listed.{Listed}
 use Rattle.pairs.specs.declared.Listed.the-variants.{Count, TooMany}
-use Rattle.pairs.specs.Pairs.{flatPairs, pairsFor}
+use Rattle.pairs.specs.Pairs.{flatPairs, pairsFor, tableHolds}
 use Rattle.pairs.specs.Table.{Kept}
-use Rattle.pairs.specs.Promise.{pairsAt, Held, Lists, tableHolds}
+use Rattle.pairs.specs.Promise.{pairsAt, Held, Lists}
 use Rattle.pairs.proofs.Rising.{pairs-rising}
 use Rattle.pairs.proofs.Closed.{pair-for}
 use Rattle.pairs.proofs.Flat.{flat-length}

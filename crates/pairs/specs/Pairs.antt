@@ -3,7 +3,7 @@
 -- place).
 use mathlib.Core.Bool.{Bool, not, _&&_, _||_, cond}
 use mathlib.Core.List.{List, [], _∷_, map, List·Memᴰ}
-use Prim.Native.Nat.{ℕ, suc, _+_, _-_}
+use Prim.Native.Nat.{ℕ, suc, _+_, _-_, _/_, min}
 use lib.Dec.{T, leb, ltb, eqb}
 use Rattle.basics.specs.Lists.{any, keep, concatMap, upFrom, numbered}
 use Rattle.netlist.specs.Netlist.{Cell, Pin, Circuit}
@@ -51,3 +51,7 @@ pairsFor circuit target =
 unfoldable pub pairPlace : ℕ → ℕ → List (ℕ × ℕ) → ℕ
 pairPlace f t [] = 0
 pairPlace f t (x ∷ xs) = cond (eqb (x .0) f && eqb (x .1) t) 0 (suc (pairPlace f t xs))
+
+-- how many pairs a lent table holds: two numbers a pair, and at most 65,536
+abbrev pub tableHolds : ℕ → ℕ
+tableHolds room = min (room / 2) 65536

@@ -8,7 +8,7 @@ use Rattle.netlist.specs.File.{circuitAt}
 use Rattle.settle.specs.Settling.{topsOf}
 use Rattle.pairs.specs.declared.Listed.{Listed}
 use Rattle.pairs.specs.declared.Listed.the-variants.{Count, TooMany}
-use Rattle.pairs.specs.Pairs.{flatPairs, pairsFor}
+use Rattle.pairs.specs.Pairs.{flatPairs, pairsFor, tableHolds}
 use Rattle.pairs.specs.Rising.{Before, Rising}
 use Rattle.pairs.specs.Table.{Precede}
 
@@ -26,10 +26,6 @@ pub record Tops (file : List ℕ) (shape : Shape) (tops : List ℕ) : Type 0 whe
 -- the pairs of an accepted file's target
 abbrev pub pairsAt : List ℕ → Shape → ℕ → List (ℕ × ℕ)
 pairsAt file shape target = pairsFor (circuitAt file shape) target
-
--- how many pairs a lent table holds: two numbers a pair, and at most 65,536
-abbrev pub tableHolds : ℕ → ℕ
-tableHolds room = min (room / 2) 65536
 
 -- the pairs and then zeros; or, where they are over 65,536 or don't fit the table (row 10), zeros
 abbrev pub Held : List (ℕ × ℕ) → ℕ → List ℕ → Listed → Type 0

@@ -8,7 +8,7 @@ ghost use lib.ListN.{length, getD, take, drop};
 ghost use Rattle.netlist.specs.File.{cellAt, firstAt, countAt};
 ghost use Rattle.netlist.specs.Holds.{Holds};
 ghost use Rattle.settle.specs.Settling.{last, readyAt};
-ghost use Rattle.pairs.specs.Pairs.{pairPlace};
+ghost use Rattle.pairs.specs.Pairs.{pairPlace, tableHolds};
 ghost use Rattle.pairs.specs.Table.{
   farTime,
   pairsIn,
@@ -28,7 +28,7 @@ ghost use Rattle.pairs.specs.Table.{
   Asks,
   Kept,
 };
-ghost use Rattle.pairs.specs.Promise.{Topped, Tops, pairsAt, Held, Lists, Findable, Bounds, Begins, tableHolds};
+ghost use Rattle.pairs.specs.Promise.{Topped, Tops, pairsAt, Held, Lists, Findable, Bounds, Begins};
 
 // Where the pairs begin in a table that is filled from its end, or that they are more than it holds.
 enum Filled {

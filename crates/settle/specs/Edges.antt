@@ -115,8 +115,8 @@ pub edges-hold :
     evaluation (c .file) (c .vector) (length (c .expected .values)) (length (c .expected .times))) edges
     ≡ map (λ (c : Case). c .expected) edges
 unfolding
-    edges everyKind orders written oneGate circuitA netlistRows firstWrong countWrong backWrong pinsBefore gateWrong gatePlace
-    sumWrong pinsAt pinWrong pinPlace outputWrong outputPlace kinds kindRow tableBytes shapeOf gateAt pinAt
-    pinsFrom cellOf cellAt netlistAt gateValue settles grow valuesOf timesOf circuitTime evaluation givenRows
-    settled byteWrong
+    edges everyKind orders written oneGate circuitA netlistRows firstWrong countWrong backWrong pinsBefore gateWrong
+    gatePlace sumWrong pinsAt pinWrong pinPlace outputWrong outputPlace kinds kindRow tableBytes shapeOf gateAt pinAt
+    pinsFrom cellOf cellAt netlistAt gateValue settles grow valuesOf timesOf circuitTime evaluation givenRows settled
+    byteWrong
 edges-hold = refl
