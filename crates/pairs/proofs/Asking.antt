@@ -1,15 +1,24 @@
--- What is marked of a node f: the target by the outputs, and what each pin asks for that f drives, pin by pin and gate by
--- gate. Laws: output-..; pin-starts, pin-here, pin-more, pin-ends; gate-starts, gate-skip, gate-more, gate-ends;
--- asks-starts, asks-more, asks-ends. Assumes nothing.
+-- What is marked of a node f: the target by the outputs, and what each pin asks for that f drives, one after the other.
+-- Laws: output-..; pin-starts, pin-here, pin-more, pin-ends; asks-starts, asks-more, asks-ends. Assumes nothing.
 use mathlib.Core.Path.{_≡_, refl, sym, ap, ap₂, subst, _∙_}
 use mathlib.Core.Logic.{_⊎_, inl, inr}
-use mathlib.Core.List.{List, List·Memᴰ}
+use mathlib.Core.List.{
+  List,
+  [],
+  _∷_,
+  List·Memᴰ,
+  List·Memᴰ·head,
+  List·Memᴰ·tail,
+  List·Memᴰ·not-nil,
+  List·Memᴰ·cases-cons,
+}
 use Prim.Native.Nat.{ℕ, _+_, _*_, _-_, _<_, _≤_}
 use native.Mathlib.Omega.{arith}
 use native.Mathlib.Decide.{decLt, ℕ-discrete}
 use lib.ListN.{length, getD}
 use Rattle.netlist.specs.declared.Shape.{Shape}
-use Rattle.netlist.specs.File.{netlistAt, firstAt, countAt, driverAt, delayAt, outputAt}
+use Rattle.netlist.specs.File.{netlistAt, firstAt, delayAt, outputAt}
+use Rattle.netlist.specs.Holds.{Holds}
 use Rattle.netlist.proofs.Entries.{output-has, output-only}
 use Rattle.pairs.specs.Table.{
   pairAt,
@@ -19,7 +28,7 @@ use Rattle.pairs.specs.Table.{
   Adds,
   Within,
   PinAsks,
-  GateAsks,
+  Drives,
   OutputAsks,
   Asks,
   byOutput,
@@ -148,124 +157,89 @@ module _ {l : List (ℕ × ℕ)} {n delay top : ℕ} where
           go (no h) =
               absurd (omega (arith, u .few, ap keyOf (i .2), p .after (i .0) (omega arith) (i .1)))
 
--- ---- the pins of a gate
+-- ---- the outputs, and then the pins that f drives
 
-module _ {l : List (ℕ × ℕ)} {file : List ℕ} {shape : Shape} {first n f : ℕ} where
-  -- a pin of the first k, and a pin of the first k + 1 that is not pin k
-  further : (k t : ℕ) → GateAsks l file shape first k n f t → GateAsks l file shape first (k + 1) n f t
-  further k t u = record { pin = u .pin; within = omega (arith, u .within); drives = u .drives; asks = u .asks }
-
-  nearer : (k t : ℕ) (u : GateAsks l file shape first (k + 1) n f t) → (u .pin ≡ k → ⊥) →
-      GateAsks l file shape first k n f t
-  nearer k t u h = record { pin = u .pin; within = omega (arith, u .within); drives = u .drives; asks = u .asks }
-
-module _ {l : List (ℕ × ℕ)} {file : List ℕ} {shape : Shape} {first n f top : ℕ} where
-  pub gate-starts : {marks : List ℕ} → Adds marks (Within top (GateAsks l file shape first 0 n f)) marks
-  gate-starts =
-      adds-none (Within top (GateAsks l file shape first 0 n f)) (λ t u. omega (arith, u .has .within))
-
-  -- pin k is driven by another node
-  pub gate-skip : {a b : List ℕ} {k driver : ℕ} → Adds a (Within top (GateAsks l file shape first k n f)) b →
-      driver ≡ driverAt file shape (first + k) → (driver ≡ f → ⊥) →
-      Adds a (Within top (GateAsks l file shape first (k + 1) n f)) b
-  gate-skip {k = k} w e h =
-      adds-same (Within top (GateAsks l file shape first (k + 1) n f))
-      (λ t u. within-as (GateAsks l file shape first (k + 1) n f) t (further k t) u)
-      (λ t u. within-as (GateAsks l file shape first k n f) t (λ v. nearer k t v (λ q. other t v q)) u) w
-    where
-      other : (t : ℕ) (u : GateAsks l file shape first (k + 1) n f t) → u .pin ≡ k → ⊥
-      other t u q = h (e ∙ ap (λ (y : ℕ). driverAt file shape (first + y)) (sym q) ∙ u .drives)
-
-  -- pin k is driven by f
-  pub gate-more : {a b c : List ℕ} {k driver delay : ℕ} →
-      Adds a (Within top (GateAsks l file shape first k n f)) b → Adds b (Within top (PinAsks l n delay)) c →
-      driver ≡ driverAt file shape (first + k) → driver ≡ f → delay ≡ delayAt file shape (first + k) →
-      Adds a (Within top (GateAsks l file shape first (k + 1) n f)) c
-  gate-more {k = k} {delay = delay} v w e q d =
-      adds-then (Within top (GateAsks l file shape first (k + 1) n f)) v w
-      (λ t u. within-as (GateAsks l file shape first (k + 1) n f) t (further k t) u)
-      (λ t u. within-as (GateAsks l file shape first (k + 1) n f) t (λ p. own t p) u)
-      (λ t u. pick t u (ℕ-discrete (u .has .pin) k))
-    where
-      own : (t : ℕ) → PinAsks l n delay t → GateAsks l file shape first (k + 1) n f t
-      own t p =
-          record {
-            pin = k;
-            within = omega arith;
-            drives = sym e ∙ q;
-            asks = subst (λ (x : ℕ). PinAsks l n x t) d p;
-          }
-
-      pick : (t : ℕ) (u : Within top (GateAsks l file shape first (k + 1) n f) t) → Dec (u .has .pin ≡ k) →
-          Within top (GateAsks l file shape first k n f) t ⊎ Within top (PinAsks l n delay) t
-      pick t u (yes r) =
-          inr
-          (within-as (PinAsks l n delay) t
-          (λ (v : GateAsks l file shape first (k + 1) n f t).
-          subst (λ (x : ℕ). PinAsks l n x t)
-          (ap (λ (y : ℕ). delayAt file shape (first + y)) r ∙ sym d) (u .has .asks)) u)
-      pick t u (no r) =
-          inl
-          (within-as (GateAsks l file shape first k n f) t
-          (λ (v : GateAsks l file shape first (k + 1) n f t). nearer k t (u .has) r) u)
-
-  -- all pins of gate i
-  pub gate-ends : {a b : List ℕ} {k : ℕ} (i count : ℕ) → Adds a (Within top (GateAsks l file shape first k n f)) b →
-      k ≡ count → first ≡ firstAt file shape i → count ≡ countAt file shape i →
-      Adds a (Within top (GateAsks l file shape (firstAt file shape i) (countAt file shape i) n f)) b
-  gate-ends {a} {b} {k} i count w p q r =
-      subst (λ (x : ℕ). Adds a (Within top (GateAsks l file shape x (countAt file shape i) n f)) b) q
-      (subst (λ (x : ℕ). Adds a (Within top (GateAsks l file shape first x n f)) b) (p ∙ r) w)
-
--- ---- the outputs, and then the gates
+-- an output, or one of these pins
+pub data ListAsks (l : List (ℕ × ℕ)) (file : List ℕ) (shape : Shape) (target f : ℕ) (pins : List (ℕ × ℕ)) (t : ℕ) :
+    Type 0 where
+  anOutput : OutputAsks file shape target f t → ListAsks l file shape target f pins t
+  aPin : (x : ℕ × ℕ) → List·Memᴰ x pins → PinAsks l (shape .inputs + x .0) (x .1) t → ListAsks l file shape target f pins t
 
 module _ {l : List (ℕ × ℕ)} {file : List ℕ} {shape : Shape} {target f top : ℕ} where
-  -- no pin of the gates up to f is driven by f
-  pub asks-starts : {a b : List ℕ} (i : ℕ) → shape .inputs + i ≤ f + 1 →
-      Adds a (Within top (OutputAsks file shape target f)) b → Adds a (Within top (Asks l file shape target i f)) b
-  asks-starts i h w =
-      adds-same (Within top (Asks l file shape target i f))
-      (λ t u. within-as (Asks l file shape target i f) t (λ v. byOutput v) u)
+  pub asks-starts : {a b : List ℕ} → Adds a (Within top (OutputAsks file shape target f)) b →
+      Adds a (Within top (ListAsks l file shape target f [])) b
+  asks-starts w =
+      adds-same (Within top (ListAsks l file shape target f []))
+      (λ t u. within-as (ListAsks l file shape target f []) t (λ v. anOutput v) u)
       (λ t u. within-as (OutputAsks file shape target f) t (λ v. pick t v) u) w
     where
-      pick : (t : ℕ) → Asks l file shape target i f t → OutputAsks file shape target f t
-      pick t (byOutput v) = v
-      pick t (byGate j p q v) = absurd (omega arith)
+      pick : (t : ℕ) → ListAsks l file shape target f [] t → OutputAsks file shape target f t
+      pick t (anOutput v) = v
+      pick t (aPin x m v) = absurd (List·Memᴰ·not-nil m)
 
-  pub asks-more : {a b c : List ℕ} {i : ℕ} → Adds a (Within top (Asks l file shape target i f)) b →
-      Adds b
-      (Within top (GateAsks l file shape (firstAt file shape i) (countAt file shape i) (shape .inputs + i) f)) c →
-      f < shape .inputs + i → Adds a (Within top (Asks l file shape target (i + 1) f)) c
-  asks-more {i = i} v w h =
-      adds-then (Within top (Asks l file shape target (i + 1) f)) v w
-      (λ t u. within-as (Asks l file shape target (i + 1) f) t (λ x. further-up t x) u)
-      (λ t u. within-as (Asks l file shape target (i + 1) f) t (λ x. byGate i (omega arith) h x) u)
+  -- one pin more
+  pub asks-more : {a b c : List ℕ} {pins : List (ℕ × ℕ)} (x : ℕ × ℕ) →
+      Adds a (Within top (ListAsks l file shape target f pins)) b → Adds b (Within top (PinAsks l (shape .inputs + x .0) (x .1))) c →
+      Adds a (Within top (ListAsks l file shape target f (x ∷ pins))) c
+  asks-more {pins = pins} x v w =
+      adds-then (Within top (ListAsks l file shape target f (x ∷ pins))) v w
+      (λ t u. within-as (ListAsks l file shape target f (x ∷ pins)) t (λ y. further t y) u)
+      (λ t u. within-as (ListAsks l file shape target f (x ∷ pins)) t (λ y. aPin x (List·Memᴰ·head refl) y) u)
       (λ t u. part t u (pick t (u .has)))
     where
-      Own : ℕ → Type 0
-      Own t = GateAsks l file shape (firstAt file shape i) (countAt file shape i) (shape .inputs + i) f t
+      further : (t : ℕ) → ListAsks l file shape target f pins t → ListAsks l file shape target f (x ∷ pins) t
+      further t (anOutput y) = anOutput y
+      further t (aPin z m y) = aPin z (List·Memᴰ·tail m) y
 
-      further-up : (t : ℕ) → Asks l file shape target i f t → Asks l file shape target (i + 1) f t
-      further-up t (byOutput x) = byOutput x
-      further-up t (byGate j p q x) = byGate j (omega arith) q x
-
-      pick : (t : ℕ) → Asks l file shape target (i + 1) f t → Asks l file shape target i f t ⊎ Own t
-      pick t (byOutput x) = inl (byOutput x)
-      pick t (byGate j p q x) = go (ℕ-discrete j i)
+      pick : (t : ℕ) → ListAsks l file shape target f (x ∷ pins) t →
+          ListAsks l file shape target f pins t ⊎ PinAsks l (shape .inputs + x .0) (x .1) t
+      pick t (anOutput y) = inl (anOutput y)
+      pick t (aPin z m y) = go (List·Memᴰ·cases-cons m)
         where
-          go : Dec (j ≡ i) → Asks l file shape target i f t ⊎ Own t
-          go (yes e) =
-              inr
-              (subst
-              (λ (y : ℕ). GateAsks l file shape (firstAt file shape y) (countAt file shape y) (shape .inputs + y) f t)
-              e x)
-          go (no e) = inl (byGate j (omega arith) q x)
+          go : (z ≡ x) ⊎ List·Memᴰ z pins → ListAsks l file shape target f pins t ⊎ PinAsks l (shape .inputs + x .0) (x .1) t
+          go (inl e) = inr (subst (λ (p : ℕ × ℕ). PinAsks l (shape .inputs + p .0) (p .1) t) e y)
+          go (inr i) = inl (aPin z i y)
 
-      part : (t : ℕ) → Within top (Asks l file shape target (i + 1) f) t → Asks l file shape target i f t ⊎ Own t →
-          Within top (Asks l file shape target i f) t ⊎ Within top Own t
-      part t u (inl x) = inl (record { some = u .some; few = u .few; has = x })
-      part t u (inr x) = inr (record { some = u .some; few = u .few; has = x })
+      part : (t : ℕ) → Within top (ListAsks l file shape target f (x ∷ pins)) t →
+          ListAsks l file shape target f pins t ⊎ PinAsks l (shape .inputs + x .0) (x .1) t →
+          Within top (ListAsks l file shape target f pins) t ⊎ Within top (PinAsks l (shape .inputs + x .0) (x .1)) t
+      part t u (inl y) = inl (record { some = u .some; few = u .few; has = y })
+      part t u (inr y) = inr (record { some = u .some; few = u .few; has = y })
 
-  pub asks-ends : {a b : List ℕ} {i : ℕ} → Adds a (Within top (Asks l file shape target i f)) b → i ≡ shape .gates →
+  -- all pins that f drives: what the gates ask for
+  pub asks-ends : {a b : List ℕ} {pins : List (ℕ × ℕ)} → Holds file shape →
+      Adds a (Within top (ListAsks l file shape target f pins)) b →
+      ((x : ℕ × ℕ) → List·Memᴰ x pins → Drives file shape (shape .gates) f x) →
+      ((x : ℕ × ℕ) → Drives file shape (shape .gates) f x → List·Memᴰ x pins) →
       Adds a (Within top (Asks l file shape target (shape .gates) f)) b
-  asks-ends {a} {b} w e = subst (λ (x : ℕ). Adds a (Within top (Asks l file shape target x f)) b) e w
+  asks-ends {pins = pins} holds w each all =
+      adds-same (Within top (Asks l file shape target (shape .gates) f))
+      (λ t u. within-as (Asks l file shape target (shape .gates) f) t (λ y. to t y) u)
+      (λ t u. within-as (ListAsks l file shape target f pins) t (λ y. back t y) u) w
+    where
+      to : (t : ℕ) → ListAsks l file shape target f pins t → Asks l file shape target (shape .gates) f t
+      to t (anOutput y) = byOutput y
+      to t (aPin x m y) =
+          let d = each x m in
+          let o = d .own in
+          let first = firstAt file shape (d .gate) in
+          byGate (d .gate) (d .low)
+          (subst (λ (z : ℕ). z < shape .inputs + d .gate) (o .drives)
+          (holds .drivers-below (d .gate) (first + o .pin) (d .low) (omega arith) (omega (arith, o .within))))
+          (record {
+            pin = o .pin;
+            within = o .within;
+            drives = o .drives;
+            asks = subst (λ (p : ℕ × ℕ). PinAsks l (shape .inputs + p .0) (p .1) t) (o .is) y;
+          })
+
+      back : (t : ℕ) → Asks l file shape target (shape .gates) f t → ListAsks l file shape target f pins t
+      back t (byOutput y) = anOutput y
+      back t (byGate j h i y) =
+          aPin (j, delayAt file shape (firstAt file shape j + y .pin))
+          (all (j, delayAt file shape (firstAt file shape j + y .pin))
+          (record {
+            gate = j;
+            low = h;
+            own = record { pin = y .pin; within = y .within; drives = y .drives; is = refl };
+          })) (y .asks)
