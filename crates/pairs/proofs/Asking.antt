@@ -1,5 +1,5 @@
 -- What is marked of a node f: the target by the outputs, and what each pin asks for that f drives, one after the other.
--- Laws: output-..; pin-starts, pin-here, pin-more, pin-ends; asks-starts, asks-more, asks-ends. Assumes nothing.
+-- Laws: output-..; pin-starts, pin-here, pin-more, pin-ends; asks-same, asks-starts, asks-more. Assumes nothing.
 use mathlib.Core.Path.{_≡_, refl, sym, ap, ap₂, subst, _∙_}
 use mathlib.Core.Logic.{_⊎_, inl, inr}
 use mathlib.Core.List.{
@@ -17,8 +17,7 @@ use native.Mathlib.Omega.{arith}
 use native.Mathlib.Decide.{decLt, ℕ-discrete}
 use lib.ListN.{length, getD}
 use Rattle.netlist.specs.declared.Shape.{Shape}
-use Rattle.netlist.specs.File.{netlistAt, firstAt, delayAt, outputAt}
-use Rattle.netlist.specs.Holds.{Holds}
+use Rattle.netlist.specs.File.{netlistAt, outputAt}
 use Rattle.netlist.proofs.Entries.{output-has, output-only}
 use Rattle.pairs.specs.Table.{
   pairAt,
@@ -28,14 +27,17 @@ use Rattle.pairs.specs.Table.{
   Adds,
   Within,
   PinAsks,
-  Drives,
   OutputAsks,
   Asks,
   byOutput,
-  byGate,
+  byPin,
 }
 use Rattle.pairs.proofs.Flat.{mem-at, at-mem}
 use Rattle.pairs.proofs.Marking.{adds-none, adds-same, adds-then}
+
+-- one of these
+abbrev pub In : List (ℕ × ℕ) → ℕ × ℕ → Type 0
+In pins x = List·Memᴰ x pins
 
 -- from 1 to a top, one property for another
 within-as : {top : ℕ} {X : ℕ → Type 0} (Y : ℕ → Type 0) (t : ℕ) → (X t → Y t) → Within top X t → Within top Y t
@@ -159,87 +161,61 @@ module _ {l : List (ℕ × ℕ)} {n delay top : ℕ} where
 
 -- ---- the outputs, and then the pins that f drives
 
--- an output, or one of these pins
-pub data ListAsks (l : List (ℕ × ℕ)) (file : List ℕ) (shape : Shape) (target f : ℕ) (pins : List (ℕ × ℕ)) (t : ℕ) :
-    Type 0 where
-  anOutput : OutputAsks file shape target f t → ListAsks l file shape target f pins t
-  aPin : (x : ℕ × ℕ) → List·Memᴰ x pins → PinAsks l (shape .inputs + x .0) (x .1) t → ListAsks l file shape target f pins t
+-- the same by other pins
+asks-as : {l : List (ℕ × ℕ)} {file : List ℕ} {shape : Shape} {target f : ℕ} {X : ℕ × ℕ → Type 0}
+    (Y : ℕ × ℕ → Type 0) (t : ℕ) → ((x : ℕ × ℕ) → X x → Y x) → Asks X l file shape target f t →
+    Asks Y l file shape target f t
+asks-as Y t h (byOutput y) = byOutput y
+asks-as Y t h (byPin x p y) = byPin x (h x p) y
 
 module _ {l : List (ℕ × ℕ)} {file : List ℕ} {shape : Shape} {target f top : ℕ} where
+  pub asks-same : {a b : List ℕ} {X : ℕ × ℕ → Type 0} (Y : ℕ × ℕ → Type 0) → ((x : ℕ × ℕ) → X x → Y x) →
+      ((x : ℕ × ℕ) → Y x → X x) → Adds a (Within top (Asks X l file shape target f)) b →
+      Adds a (Within top (Asks Y l file shape target f)) b
+  asks-same {X = X} Y g h w =
+      adds-same (Within top (Asks Y l file shape target f))
+      (λ t u. within-as (Asks Y l file shape target f) t (asks-as Y t g) u)
+      (λ t u. within-as (Asks X l file shape target f) t (asks-as X t h) u) w
+
+  -- no pin
   pub asks-starts : {a b : List ℕ} → Adds a (Within top (OutputAsks file shape target f)) b →
-      Adds a (Within top (ListAsks l file shape target f [])) b
+      Adds a (Within top (Asks (In []) l file shape target f)) b
   asks-starts w =
-      adds-same (Within top (ListAsks l file shape target f []))
-      (λ t u. within-as (ListAsks l file shape target f []) t (λ v. anOutput v) u)
+      adds-same (Within top (Asks (In []) l file shape target f))
+      (λ t u. within-as (Asks (In []) l file shape target f) t (λ v. byOutput v) u)
       (λ t u. within-as (OutputAsks file shape target f) t (λ v. pick t v) u) w
     where
-      pick : (t : ℕ) → ListAsks l file shape target f [] t → OutputAsks file shape target f t
-      pick t (anOutput v) = v
-      pick t (aPin x m v) = absurd (List·Memᴰ·not-nil m)
+      pick : (t : ℕ) → Asks (In []) l file shape target f t → OutputAsks file shape target f t
+      pick t (byOutput v) = v
+      pick t (byPin x m v) = absurd (List·Memᴰ·not-nil m)
 
   -- one pin more
   pub asks-more : {a b c : List ℕ} {pins : List (ℕ × ℕ)} (x : ℕ × ℕ) →
-      Adds a (Within top (ListAsks l file shape target f pins)) b → Adds b (Within top (PinAsks l (shape .inputs + x .0) (x .1))) c →
-      Adds a (Within top (ListAsks l file shape target f (x ∷ pins))) c
+      Adds a (Within top (Asks (In pins) l file shape target f)) b →
+      Adds b (Within top (PinAsks l (shape .inputs + x .0) (x .1))) c →
+      Adds a (Within top (Asks (In (x ∷ pins)) l file shape target f)) c
   asks-more {pins = pins} x v w =
-      adds-then (Within top (ListAsks l file shape target f (x ∷ pins))) v w
-      (λ t u. within-as (ListAsks l file shape target f (x ∷ pins)) t (λ y. further t y) u)
-      (λ t u. within-as (ListAsks l file shape target f (x ∷ pins)) t (λ y. aPin x (List·Memᴰ·head refl) y) u)
-      (λ t u. part t u (pick t (u .has)))
+      adds-then (Within top (Asks (In (x ∷ pins)) l file shape target f)) v w
+      (λ t u.
+      within-as (Asks (In (x ∷ pins)) l file shape target f) t (asks-as (In (x ∷ pins)) t (λ y m. List·Memᴰ·tail m)) u)
+      (λ t u. within-as (Asks (In (x ∷ pins)) l file shape target f) t (λ y. byPin x (List·Memᴰ·head refl) y) u)
+      (λ t u. pick t u (u .has))
     where
-      further : (t : ℕ) → ListAsks l file shape target f pins t → ListAsks l file shape target f (x ∷ pins) t
-      further t (anOutput y) = anOutput y
-      further t (aPin z m y) = aPin z (List·Memᴰ·tail m) y
-
-      pick : (t : ℕ) → ListAsks l file shape target f (x ∷ pins) t →
-          ListAsks l file shape target f pins t ⊎ PinAsks l (shape .inputs + x .0) (x .1) t
-      pick t (anOutput y) = inl (anOutput y)
-      pick t (aPin z m y) = go (List·Memᴰ·cases-cons m)
+      pick : (t : ℕ) → Within top (Asks (In (x ∷ pins)) l file shape target f) t →
+          Asks (In (x ∷ pins)) l file shape target f t →
+          Within top (Asks (In pins) l file shape target f) t
+          ⊎ Within top (PinAsks l (shape .inputs + x .0) (x .1)) t
+      pick t u (byOutput y) = inl (record { some = u .some; few = u .few; has = byOutput y })
+      pick t u (byPin z m y) = go (List·Memᴰ·cases-cons m)
         where
-          go : (z ≡ x) ⊎ List·Memᴰ z pins → ListAsks l file shape target f pins t ⊎ PinAsks l (shape .inputs + x .0) (x .1) t
-          go (inl e) = inr (subst (λ (p : ℕ × ℕ). PinAsks l (shape .inputs + p .0) (p .1) t) e y)
-          go (inr i) = inl (aPin z i y)
-
-      part : (t : ℕ) → Within top (ListAsks l file shape target f (x ∷ pins)) t →
-          ListAsks l file shape target f pins t ⊎ PinAsks l (shape .inputs + x .0) (x .1) t →
-          Within top (ListAsks l file shape target f pins) t ⊎ Within top (PinAsks l (shape .inputs + x .0) (x .1)) t
-      part t u (inl y) = inl (record { some = u .some; few = u .few; has = y })
-      part t u (inr y) = inr (record { some = u .some; few = u .few; has = y })
-
-  -- all pins that f drives: what the gates ask for
-  pub asks-ends : {a b : List ℕ} {pins : List (ℕ × ℕ)} → Holds file shape →
-      Adds a (Within top (ListAsks l file shape target f pins)) b →
-      ((x : ℕ × ℕ) → List·Memᴰ x pins → Drives file shape (shape .gates) f x) →
-      ((x : ℕ × ℕ) → Drives file shape (shape .gates) f x → List·Memᴰ x pins) →
-      Adds a (Within top (Asks l file shape target (shape .gates) f)) b
-  asks-ends {pins = pins} holds w each all =
-      adds-same (Within top (Asks l file shape target (shape .gates) f))
-      (λ t u. within-as (Asks l file shape target (shape .gates) f) t (λ y. to t y) u)
-      (λ t u. within-as (ListAsks l file shape target f pins) t (λ y. back t y) u) w
-    where
-      to : (t : ℕ) → ListAsks l file shape target f pins t → Asks l file shape target (shape .gates) f t
-      to t (anOutput y) = byOutput y
-      to t (aPin x m y) =
-          let d = each x m in
-          let o = d .own in
-          let first = firstAt file shape (d .gate) in
-          byGate (d .gate) (d .low)
-          (subst (λ (z : ℕ). z < shape .inputs + d .gate) (o .drives)
-          (holds .drivers-below (d .gate) (first + o .pin) (d .low) (omega arith) (omega (arith, o .within))))
-          (record {
-            pin = o .pin;
-            within = o .within;
-            drives = o .drives;
-            asks = subst (λ (p : ℕ × ℕ). PinAsks l (shape .inputs + p .0) (p .1) t) (o .is) y;
-          })
-
-      back : (t : ℕ) → Asks l file shape target (shape .gates) f t → ListAsks l file shape target f pins t
-      back t (byOutput y) = anOutput y
-      back t (byGate j h i y) =
-          aPin (j, delayAt file shape (firstAt file shape j + y .pin))
-          (all (j, delayAt file shape (firstAt file shape j + y .pin))
-          (record {
-            gate = j;
-            low = h;
-            own = record { pin = y .pin; within = y .within; drives = y .drives; is = refl };
-          })) (y .asks)
+          go : (z ≡ x) ⊎ List·Memᴰ z pins →
+              Within top (Asks (In pins) l file shape target f) t
+              ⊎ Within top (PinAsks l (shape .inputs + x .0) (x .1)) t
+          go (inl e) =
+              inr
+              (record {
+                some = u .some;
+                few = u .few;
+                has = subst (λ (p : ℕ × ℕ). PinAsks l (shape .inputs + p .0) (p .1) t) e y;
+              })
+          go (inr i) = inl (record { some = u .some; few = u .few; has = byPin z i y })

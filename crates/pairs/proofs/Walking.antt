@@ -15,19 +15,19 @@ use mathlib.Core.List.{
 use Prim.Native.Nat.{ℕ, _+_, _<_}
 use native.Mathlib.Omega.{arith}
 use Rattle.netlist.specs.declared.Shape.{Shape}
-use Rattle.netlist.specs.Holds.{Holds}
 use Rattle.pairs.specs.Table.{
   Adds,
   Within,
   PinAsks,
   OutputAsks,
   Asks,
+  AsksAll,
   Drives,
   Link,
   Chain,
   Holding,
 }
-use Rattle.pairs.proofs.Asking.{ListAsks, asks-starts, asks-more, asks-ends}
+use Rattle.pairs.proofs.Asking.{In, asks-same, asks-starts, asks-more}
 
 pub record Walking (l : List (ℕ × ℕ)) (file : List ℕ) (shape : Shape) (target f top : ℕ) (links marks₀ marks : List ℕ)
     (at : ℕ) : Type 0 where
@@ -35,7 +35,7 @@ pub record Walking (l : List (ℕ × ℕ)) (file : List ℕ) (shape : Shape) (ta
   pub rest : List (ℕ × ℕ)
   pub chain : Chain links at rest
   pub adds : (a : List ℕ) → Adds a (Within top (OutputAsks file shape target f)) marks₀ →
-      Adds a (Within top (ListAsks l file shape target f done)) marks
+      Adds a (Within top (Asks (In done) l file shape target f)) marks
   pub each : (x : ℕ × ℕ) → List·Memᴰ x done → Drives file shape (shape .gates) f x
   pub left : (x : ℕ × ℕ) → List·Memᴰ x rest → Drives file shape (shape .gates) f x
   pub all : (x : ℕ × ℕ) → Drives file shape (shape .gates) f x → List·Memᴰ x done ⊎ List·Memᴰ x rest
@@ -107,12 +107,12 @@ module _ {l : List (ℕ × ℕ)} {file : List ℕ} {shape : Shape} {target f top
           find x (inr m) = move x (List·Memᴰ·cases-cons m)
 
   -- none is left
-  pub walking-ends : {a marks : List ℕ} {at : ℕ} → Holds file shape →
-      Walking l file shape target f top links marks₀ marks at → at ≡ 0 →
-      Adds a (Within top (OutputAsks file shape target f)) marks₀ →
-      Adds a (Within top (Asks l file shape target (shape .gates) f)) marks
-  walking-ends {a} {marks} {at} holds w e v =
-      asks-ends holds (w .adds a v) (w .each) (λ x u. pick x (w .rest) (w .chain) (w .all x u))
+  pub walking-ends : {a marks : List ℕ} {at : ℕ} → Walking l file shape target f top links marks₀ marks at →
+      at ≡ 0 → Adds a (Within top (OutputAsks file shape target f)) marks₀ →
+      Adds a (Within top (AsksAll l file shape target f)) marks
+  walking-ends {a} {marks} {at} w e v =
+      asks-same (Drives file shape (shape .gates) f) (w .each) (λ x u. pick x (w .rest) (w .chain) (w .all x u))
+      (w .adds a v)
     where
       pick : (x : ℕ × ℕ) (rest : List (ℕ × ℕ)) → Chain links at rest →
           List·Memᴰ x (w .done) ⊎ List·Memᴰ x rest → List·Memᴰ x (w .done)

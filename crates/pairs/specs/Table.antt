@@ -87,26 +87,10 @@ pub record Within (top : ℕ) (Has : ℕ → Type 0) (t : ℕ) : Type 0 where
 pub record PinAsks (l : List (ℕ × ℕ)) (n delay t : ℕ) : Type 0 where
   pub has : List·Memᴰ (n, t + delay) l
 
--- one of `count` pins of node n, from the file's pin `first` on
-pub record GateAsks (l : List (ℕ × ℕ)) (file : List ℕ) (shape : Shape) (first count n f t : ℕ) : Type 0 where
-  pub pin : ℕ
-  pub within : pin < count
-  pub drives : driverAt file shape (first + pin) ≡ f
-  pub asks : PinAsks l n (delayAt file shape (first + pin)) t
-
 -- an output, at the target
 pub record OutputAsks (file : List ℕ) (shape : Shape) (target f t : ℕ) : Type 0 where
   pub same : t ≡ target
   pub output : List·Memᴰ f (netlistAt file shape .outputs)
-
--- an output, or one of the first i gates
-pub data Asks (l : List (ℕ × ℕ)) (file : List ℕ) (shape : Shape) (target i f t : ℕ) : Type 0 where
-  byOutput : OutputAsks file shape target f t → Asks l file shape target i f t
-  byGate : (j : ℕ) → j < i → f < shape .inputs + j →
-      GateAsks l file shape (firstAt file shape j) (countAt file shape j) (shape .inputs + j) f t →
-      Asks l file shape target i f t
-
--- ---- the pins that a node drives, in chains of links
 
 -- one of `count` pins of gate i, from the file's pin `first` on, as the gate's number and the delay
 pub record GateDrives (file : List ℕ) (shape : Shape) (first count i f : ℕ) (x : ℕ × ℕ) : Type 0 where
@@ -120,6 +104,18 @@ pub record Drives (file : List ℕ) (shape : Shape) (i f : ℕ) (x : ℕ × ℕ)
   pub gate : ℕ
   pub low : gate < i
   pub own : GateDrives file shape (firstAt file shape gate) (countAt file shape gate) gate f x
+
+-- an output, or a pin of these, each the number of its gate and its delay
+pub data Asks (Pin : ℕ × ℕ → Type 0) (l : List (ℕ × ℕ)) (file : List ℕ) (shape : Shape) (target f t : ℕ) :
+    Type 0 where
+  byOutput : OutputAsks file shape target f t → Asks Pin l file shape target f t
+  byPin : (x : ℕ × ℕ) → Pin x → PinAsks l (shape .inputs + x .0) (x .1) t → Asks Pin l file shape target f t
+
+-- a pin that f drives
+abbrev pub AsksAll : List (ℕ × ℕ) → List ℕ → Shape → ℕ → ℕ → ℕ → Type 0
+AsksAll l file shape target f t = Asks (Drives file shape (shape .gates) f) l file shape target f t
+
+-- ---- the pins that a node drives, in chains of links
 
 -- link number e, counted from 1, holds a pin's gate and delay and the number of the next link
 pub record Link (links : List ℕ) (e next : ℕ) (x : ℕ × ℕ) : Type 0 where

@@ -25,7 +25,7 @@ ghost use Rattle.pairs.specs.Table.{
   Chains,
   PinAsks,
   OutputAsks,
-  Asks,
+  AsksAll,
   Kept,
 };
 ghost use Rattle.pairs.specs.Promise.{Topped, Tops, pairsAt, Held, Lists, Findable, Bounds, Begins};
@@ -267,7 +267,7 @@ fn mark_asked(
         × (shape .inputs + shape .gates ≤ length (now heads)) × (top < 1000000) × (top / 64 < length (now marks))
         × Chains (Drives (now file) shape (shape .gates)) (now heads) (now links) 3584 ⌝ }
     ensures { λ _. ⌜ Adds (now (marks .entry))
-        (Within top (Asks (pairsIn (now (done .entry))) (now (file .entry)) shape target (shape .gates) f))
+        (Within top (AsksAll (pairsIn (now (done .entry))) (now (file .entry)) shape target f))
         (now (marks .exit)) ⌝ }
 {
     mark_output(file, shape, target, f, top, marks);

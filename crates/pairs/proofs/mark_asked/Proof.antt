@@ -102,7 +102,7 @@ same-length c = omega (arith, c .before .loop .inv .0, c .before .before .before
 returns : tie.Need-returns Inv-loop μ-loop
 returns c =
     let at = c .before in
-    walking-ends (start at .pre .1) (at .loop .inv .1) (omega arith)
+    walking-ends (at .loop .inv .1) (omega arith)
     (at .before .before .before .before .before .mark-output .ensures)
 
 pub mark-asked-spec : {M : Type 1} → statement M
