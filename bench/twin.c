@@ -1,10 +1,11 @@
-/* The library's twin in plain C: the same four functions by the same kind of algorithm, for comparison of speed and as
- * a stand-in for the library while the tests are tried.
+/* The library's twin in plain C: the same four functions, each as fast as plain C has them, for comparison of speed and
+ * as a stand-in for the library while the tests are tried.
  *
  * Written from docs/RULES.md alone. The functions are named twin_evaluate, twin_build, twin_check and twin_judge, so
  * that they can be linked beside the library; -DPREFIX=buzzlumen_ gives them the library's names instead.
- * Pairs are found by filling the table from its end, each time with the largest pair that is asked for below those
- * found; unit propagation runs over both lists in list order, assigning as it goes, until a pass assigns nothing.
+ * Pairs are found by marking the wanted times of one node after the other, from the highest down, and are written with
+ * a place in each driver's pairs that only moves on; unit propagation runs over both lists in list order, assigning as
+ * it goes, until a pass assigns nothing.
  */
 #include "buzzlumen.h"
 
@@ -481,11 +482,36 @@ static void write_gate(writer *w, const netlist *n, uint32_t g)
 /* A pin of a gate whose pairs are written: what drives it, and how far its driver's pairs have been passed. */
 typedef struct {
     uint32_t driver, delay;
-    size_t next;
+    size_t next, end;
     int32_t late; /* "driver late" as a literal, or one of the two below */
 } pin;
 
 enum { IS_LATE = -1, NOT_LATE = 0 };
+
+/* The first place after `at` whose time is not before t, by steps that double and then by halves. */
+static size_t place_after(const uint32_t *table, size_t at, size_t end, uint32_t t)
+{
+    size_t step = 1;
+    while (at + step < end && table[2 * (at + step) + 1] < t) {
+        at += step;
+        step *= 2;
+    }
+    size_t high = at + step < end ? at + step : end;
+    while (at + 1 < high) {
+        size_t middle = at + (high - at) / 2;
+        if (table[2 * middle + 1] < t)
+            at = middle;
+        else
+            high = middle;
+    }
+    return high;
+}
+
+static pin pin_of(const lateness *l, uint32_t driver, uint32_t delay)
+{
+    pin it = {driver, delay, l->starts[driver], l->starts[driver + 1], NOT_LATE};
+    return it;
+}
 
 /* "Driver late at t less the delay". The times of a gate's pairs rise, so that those passed need not be seen again. */
 static int32_t late(const lateness *l, const uint32_t *table, pin *p, uint32_t t)
@@ -494,8 +520,10 @@ static int32_t late(const lateness *l, const uint32_t *table, pin *p, uint32_t t
         return IS_LATE;
     if (t - p->delay > l->tops[p->driver])
         return NOT_LATE;
-    while (table[2 * p->next + 1] < t - p->delay)
+    if (table[2 * p->next + 1] < t - p->delay)
         p->next++;
+    if (table[2 * p->next + 1] < t - p->delay)
+        p->next = place_after(table, p->next, p->end, t - p->delay);
     return (int32_t)(nodes_of(l->n) + 1 + p->next);
 }
 
@@ -529,11 +557,8 @@ static void write_pairs(writer *w, const lateness *l, const uint32_t *table, uin
     const netlist *n = l->n;
     gate it = gate_at(n, g);
     pin pins[8];
-    for (uint32_t i = 0; i < it.count; i++) {
-        pins[i].driver = driver_at(n, it.first + i);
-        pins[i].delay = delay_at(n, it.first + i);
-        pins[i].next = l->starts[pins[i].driver];
-    }
+    for (uint32_t i = 0; i < it.count; i++)
+        pins[i] = pin_of(l, driver_at(n, it.first + i), delay_at(n, it.first + i));
     for (size_t k = l->starts[n->inputs + g]; k < l->starts[n->inputs + g + 1]; k++) {
         int some_surely = 0;
         for (uint32_t i = 0; i < it.count; i++) {
@@ -554,11 +579,10 @@ static void write_formula(writer *w, const lateness *l, const uint32_t *table)
     if (l->target == 0)
         return;
     for (uint32_t q = 0; q < n->output_count; q++) {
-        pin it = {output_at(n, q), 0, 0, 0};
-        it.next = l->starts[it.driver];
-        it.late = late(l, table, &it, l->target);
-        if (it.late != NOT_LATE)
-            put(w, it.late);
+        pin it = pin_of(l, output_at(n, q), 0);
+        int32_t literal = late(l, table, &it, l->target);
+        if (literal != NOT_LATE)
+            put(w, literal);
     }
     end_clause(w);
 }

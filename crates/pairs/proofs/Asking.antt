@@ -1,15 +1,23 @@
--- What is marked of a node f: the target by the outputs, and what each pin asks for that f drives, pin by pin and gate by
--- gate. Laws: output-..; pin-starts, pin-here, pin-more, pin-ends; gate-starts, gate-skip, gate-more, gate-ends;
--- asks-starts, asks-more, asks-ends. Assumes nothing.
+-- What is marked of a node f: the target by the outputs, and what each pin asks for that f drives, one after the other.
+-- Laws: output-..; pin-starts, pin-here, pin-more, pin-ends; asks-same, asks-starts, asks-more. Assumes nothing.
 use mathlib.Core.Path.{_≡_, refl, sym, ap, ap₂, subst, _∙_}
 use mathlib.Core.Logic.{_⊎_, inl, inr}
-use mathlib.Core.List.{List, List·Memᴰ}
+use mathlib.Core.List.{
+  List,
+  [],
+  _∷_,
+  List·Memᴰ,
+  List·Memᴰ·head,
+  List·Memᴰ·tail,
+  List·Memᴰ·not-nil,
+  List·Memᴰ·cases-cons,
+}
 use Prim.Native.Nat.{ℕ, _+_, _*_, _-_, _<_, _≤_}
 use native.Mathlib.Omega.{arith}
 use native.Mathlib.Decide.{decLt, ℕ-discrete}
 use lib.ListN.{length, getD}
 use Rattle.netlist.specs.declared.Shape.{Shape}
-use Rattle.netlist.specs.File.{netlistAt, firstAt, countAt, driverAt, delayAt, outputAt}
+use Rattle.netlist.specs.File.{netlistAt, outputAt}
 use Rattle.netlist.proofs.Entries.{output-has, output-only}
 use Rattle.pairs.specs.Table.{
   pairAt,
@@ -19,14 +27,17 @@ use Rattle.pairs.specs.Table.{
   Adds,
   Within,
   PinAsks,
-  GateAsks,
   OutputAsks,
   Asks,
   byOutput,
-  byGate,
+  byPin,
 }
 use Rattle.pairs.proofs.Flat.{mem-at, at-mem}
 use Rattle.pairs.proofs.Marking.{adds-none, adds-same, adds-then}
+
+-- one of these
+abbrev pub In : List (ℕ × ℕ) → ℕ × ℕ → Type 0
+In pins x = List·Memᴰ x pins
 
 -- from 1 to a top, one property for another
 within-as : {top : ℕ} {X : ℕ → Type 0} (Y : ℕ → Type 0) (t : ℕ) → (X t → Y t) → Within top X t → Within top Y t
@@ -148,124 +159,63 @@ module _ {l : List (ℕ × ℕ)} {n delay top : ℕ} where
           go (no h) =
               absurd (omega (arith, u .few, ap keyOf (i .2), p .after (i .0) (omega arith) (i .1)))
 
--- ---- the pins of a gate
+-- ---- the outputs, and then the pins that f drives
 
-module _ {l : List (ℕ × ℕ)} {file : List ℕ} {shape : Shape} {first n f : ℕ} where
-  -- a pin of the first k, and a pin of the first k + 1 that is not pin k
-  further : (k t : ℕ) → GateAsks l file shape first k n f t → GateAsks l file shape first (k + 1) n f t
-  further k t u = record { pin = u .pin; within = omega (arith, u .within); drives = u .drives; asks = u .asks }
-
-  nearer : (k t : ℕ) (u : GateAsks l file shape first (k + 1) n f t) → (u .pin ≡ k → ⊥) →
-      GateAsks l file shape first k n f t
-  nearer k t u h = record { pin = u .pin; within = omega (arith, u .within); drives = u .drives; asks = u .asks }
-
-module _ {l : List (ℕ × ℕ)} {file : List ℕ} {shape : Shape} {first n f top : ℕ} where
-  pub gate-starts : {marks : List ℕ} → Adds marks (Within top (GateAsks l file shape first 0 n f)) marks
-  gate-starts =
-      adds-none (Within top (GateAsks l file shape first 0 n f)) (λ t u. omega (arith, u .has .within))
-
-  -- pin k is driven by another node
-  pub gate-skip : {a b : List ℕ} {k driver : ℕ} → Adds a (Within top (GateAsks l file shape first k n f)) b →
-      driver ≡ driverAt file shape (first + k) → (driver ≡ f → ⊥) →
-      Adds a (Within top (GateAsks l file shape first (k + 1) n f)) b
-  gate-skip {k = k} w e h =
-      adds-same (Within top (GateAsks l file shape first (k + 1) n f))
-      (λ t u. within-as (GateAsks l file shape first (k + 1) n f) t (further k t) u)
-      (λ t u. within-as (GateAsks l file shape first k n f) t (λ v. nearer k t v (λ q. other t v q)) u) w
-    where
-      other : (t : ℕ) (u : GateAsks l file shape first (k + 1) n f t) → u .pin ≡ k → ⊥
-      other t u q = h (e ∙ ap (λ (y : ℕ). driverAt file shape (first + y)) (sym q) ∙ u .drives)
-
-  -- pin k is driven by f
-  pub gate-more : {a b c : List ℕ} {k driver delay : ℕ} →
-      Adds a (Within top (GateAsks l file shape first k n f)) b → Adds b (Within top (PinAsks l n delay)) c →
-      driver ≡ driverAt file shape (first + k) → driver ≡ f → delay ≡ delayAt file shape (first + k) →
-      Adds a (Within top (GateAsks l file shape first (k + 1) n f)) c
-  gate-more {k = k} {delay = delay} v w e q d =
-      adds-then (Within top (GateAsks l file shape first (k + 1) n f)) v w
-      (λ t u. within-as (GateAsks l file shape first (k + 1) n f) t (further k t) u)
-      (λ t u. within-as (GateAsks l file shape first (k + 1) n f) t (λ p. own t p) u)
-      (λ t u. pick t u (ℕ-discrete (u .has .pin) k))
-    where
-      own : (t : ℕ) → PinAsks l n delay t → GateAsks l file shape first (k + 1) n f t
-      own t p =
-          record {
-            pin = k;
-            within = omega arith;
-            drives = sym e ∙ q;
-            asks = subst (λ (x : ℕ). PinAsks l n x t) d p;
-          }
-
-      pick : (t : ℕ) (u : Within top (GateAsks l file shape first (k + 1) n f) t) → Dec (u .has .pin ≡ k) →
-          Within top (GateAsks l file shape first k n f) t ⊎ Within top (PinAsks l n delay) t
-      pick t u (yes r) =
-          inr
-          (within-as (PinAsks l n delay) t
-          (λ (v : GateAsks l file shape first (k + 1) n f t).
-          subst (λ (x : ℕ). PinAsks l n x t)
-          (ap (λ (y : ℕ). delayAt file shape (first + y)) r ∙ sym d) (u .has .asks)) u)
-      pick t u (no r) =
-          inl
-          (within-as (GateAsks l file shape first k n f) t
-          (λ (v : GateAsks l file shape first (k + 1) n f t). nearer k t (u .has) r) u)
-
-  -- all pins of gate i
-  pub gate-ends : {a b : List ℕ} {k : ℕ} (i count : ℕ) → Adds a (Within top (GateAsks l file shape first k n f)) b →
-      k ≡ count → first ≡ firstAt file shape i → count ≡ countAt file shape i →
-      Adds a (Within top (GateAsks l file shape (firstAt file shape i) (countAt file shape i) n f)) b
-  gate-ends {a} {b} {k} i count w p q r =
-      subst (λ (x : ℕ). Adds a (Within top (GateAsks l file shape x (countAt file shape i) n f)) b) q
-      (subst (λ (x : ℕ). Adds a (Within top (GateAsks l file shape first x n f)) b) (p ∙ r) w)
-
--- ---- the outputs, and then the gates
+-- the same by other pins
+asks-as : {l : List (ℕ × ℕ)} {file : List ℕ} {shape : Shape} {target f : ℕ} {X : ℕ × ℕ → Type 0}
+    (Y : ℕ × ℕ → Type 0) (t : ℕ) → ((x : ℕ × ℕ) → X x → Y x) → Asks X l file shape target f t →
+    Asks Y l file shape target f t
+asks-as Y t h (byOutput y) = byOutput y
+asks-as Y t h (byPin x p y) = byPin x (h x p) y
 
 module _ {l : List (ℕ × ℕ)} {file : List ℕ} {shape : Shape} {target f top : ℕ} where
-  -- no pin of the gates up to f is driven by f
-  pub asks-starts : {a b : List ℕ} (i : ℕ) → shape .inputs + i ≤ f + 1 →
-      Adds a (Within top (OutputAsks file shape target f)) b → Adds a (Within top (Asks l file shape target i f)) b
-  asks-starts i h w =
-      adds-same (Within top (Asks l file shape target i f))
-      (λ t u. within-as (Asks l file shape target i f) t (λ v. byOutput v) u)
+  pub asks-same : {a b : List ℕ} {X : ℕ × ℕ → Type 0} (Y : ℕ × ℕ → Type 0) → ((x : ℕ × ℕ) → X x → Y x) →
+      ((x : ℕ × ℕ) → Y x → X x) → Adds a (Within top (Asks X l file shape target f)) b →
+      Adds a (Within top (Asks Y l file shape target f)) b
+  asks-same {X = X} Y g h w =
+      adds-same (Within top (Asks Y l file shape target f))
+      (λ t u. within-as (Asks Y l file shape target f) t (asks-as Y t g) u)
+      (λ t u. within-as (Asks X l file shape target f) t (asks-as X t h) u) w
+
+  -- no pin
+  pub asks-starts : {a b : List ℕ} → Adds a (Within top (OutputAsks file shape target f)) b →
+      Adds a (Within top (Asks (In []) l file shape target f)) b
+  asks-starts w =
+      adds-same (Within top (Asks (In []) l file shape target f))
+      (λ t u. within-as (Asks (In []) l file shape target f) t (λ v. byOutput v) u)
       (λ t u. within-as (OutputAsks file shape target f) t (λ v. pick t v) u) w
     where
-      pick : (t : ℕ) → Asks l file shape target i f t → OutputAsks file shape target f t
+      pick : (t : ℕ) → Asks (In []) l file shape target f t → OutputAsks file shape target f t
       pick t (byOutput v) = v
-      pick t (byGate j p q v) = absurd (omega arith)
+      pick t (byPin x m v) = absurd (List·Memᴰ·not-nil m)
 
-  pub asks-more : {a b c : List ℕ} {i : ℕ} → Adds a (Within top (Asks l file shape target i f)) b →
-      Adds b
-      (Within top (GateAsks l file shape (firstAt file shape i) (countAt file shape i) (shape .inputs + i) f)) c →
-      f < shape .inputs + i → Adds a (Within top (Asks l file shape target (i + 1) f)) c
-  asks-more {i = i} v w h =
-      adds-then (Within top (Asks l file shape target (i + 1) f)) v w
-      (λ t u. within-as (Asks l file shape target (i + 1) f) t (λ x. further-up t x) u)
-      (λ t u. within-as (Asks l file shape target (i + 1) f) t (λ x. byGate i (omega arith) h x) u)
-      (λ t u. part t u (pick t (u .has)))
+  -- one pin more
+  pub asks-more : {a b c : List ℕ} {pins : List (ℕ × ℕ)} (x : ℕ × ℕ) →
+      Adds a (Within top (Asks (In pins) l file shape target f)) b →
+      Adds b (Within top (PinAsks l (shape .inputs + x .0) (x .1))) c →
+      Adds a (Within top (Asks (In (x ∷ pins)) l file shape target f)) c
+  asks-more {pins = pins} x v w =
+      adds-then (Within top (Asks (In (x ∷ pins)) l file shape target f)) v w
+      (λ t u.
+      within-as (Asks (In (x ∷ pins)) l file shape target f) t (asks-as (In (x ∷ pins)) t (λ y m. List·Memᴰ·tail m)) u)
+      (λ t u. within-as (Asks (In (x ∷ pins)) l file shape target f) t (λ y. byPin x (List·Memᴰ·head refl) y) u)
+      (λ t u. pick t u (u .has))
     where
-      Own : ℕ → Type 0
-      Own t = GateAsks l file shape (firstAt file shape i) (countAt file shape i) (shape .inputs + i) f t
-
-      further-up : (t : ℕ) → Asks l file shape target i f t → Asks l file shape target (i + 1) f t
-      further-up t (byOutput x) = byOutput x
-      further-up t (byGate j p q x) = byGate j (omega arith) q x
-
-      pick : (t : ℕ) → Asks l file shape target (i + 1) f t → Asks l file shape target i f t ⊎ Own t
-      pick t (byOutput x) = inl (byOutput x)
-      pick t (byGate j p q x) = go (ℕ-discrete j i)
+      pick : (t : ℕ) → Within top (Asks (In (x ∷ pins)) l file shape target f) t →
+          Asks (In (x ∷ pins)) l file shape target f t →
+          Within top (Asks (In pins) l file shape target f) t
+          ⊎ Within top (PinAsks l (shape .inputs + x .0) (x .1)) t
+      pick t u (byOutput y) = inl (record { some = u .some; few = u .few; has = byOutput y })
+      pick t u (byPin z m y) = go (List·Memᴰ·cases-cons m)
         where
-          go : Dec (j ≡ i) → Asks l file shape target i f t ⊎ Own t
-          go (yes e) =
+          go : (z ≡ x) ⊎ List·Memᴰ z pins →
+              Within top (Asks (In pins) l file shape target f) t
+              ⊎ Within top (PinAsks l (shape .inputs + x .0) (x .1)) t
+          go (inl e) =
               inr
-              (subst
-              (λ (y : ℕ). GateAsks l file shape (firstAt file shape y) (countAt file shape y) (shape .inputs + y) f t)
-              e x)
-          go (no e) = inl (byGate j (omega arith) q x)
-
-      part : (t : ℕ) → Within top (Asks l file shape target (i + 1) f) t → Asks l file shape target i f t ⊎ Own t →
-          Within top (Asks l file shape target i f) t ⊎ Within top Own t
-      part t u (inl x) = inl (record { some = u .some; few = u .few; has = x })
-      part t u (inr x) = inr (record { some = u .some; few = u .few; has = x })
-
-  pub asks-ends : {a b : List ℕ} {i : ℕ} → Adds a (Within top (Asks l file shape target i f)) b → i ≡ shape .gates →
-      Adds a (Within top (Asks l file shape target (shape .gates) f)) b
-  asks-ends {a} {b} w e = subst (λ (x : ℕ). Adds a (Within top (Asks l file shape target x f)) b) e w
+              (record {
+                some = u .some;
+                few = u .few;
+                has = subst (λ (p : ℕ × ℕ). PinAsks l (shape .inputs + p .0) (p .1) t) e y;
+              })
+          go (inr i) = inl (record { some = u .some; few = u .few; has = byPin z i y })

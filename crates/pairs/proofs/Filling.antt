@@ -28,7 +28,7 @@ use Rattle.settle.specs.Settling.{topOf}
 use Rattle.settle.proofs.Nodes.{tops-small}
 use Rattle.pairs.specs.Pairs.{flatPairs, pairsFor, pairList}
 use Rattle.pairs.specs.Rising.{Before, Rising}
-use Rattle.pairs.specs.Table.{pairsIn, keyOf, Sorted, Within, Asks}
+use Rattle.pairs.specs.Table.{pairsIn, keyOf, Sorted, Within, AsksAll}
 use Rattle.pairs.specs.Promise.{Tops, pairsAt}
 use Rattle.pairs.proofs.Least.{is-pair}
 use Rattle.pairs.proofs.Rising.{before-irreflexive, before-transitive, above-of, pairs-rising}
@@ -114,7 +114,7 @@ module _ {file : List ℕ} {shape : Shape} (holds : Holds file shape) (target : 
 
     -- what asks for f from 1 to its top, where the pairs are found from there on, is what is asked of f
     pub filling-asks : (x : ℕ) → x ≡ top f → (t : ℕ) →
-        Within x (Asks (foundIn table at) file shape target (shape .gates) f) t → A f t × (t < x + 1)
+        Within x (AsksAll (foundIn table at) file shape target f) t → A f t × (t < x + 1)
     filling-asks x e t u = (
       asked-of holds target (w .done) f t (rw (seen w) at (u .has)) (w .sound)
           (is-pair (net .inputs) top (net .outputs) target f t (omega (arith, w .node, net-inputs file shape)) (u .some)
@@ -123,7 +123,7 @@ module _ {file : List ℕ} {shape : Shape} (holds : Holds file shape) (target : 
     )
 
     pub filling-asked : (x : ℕ) → x + 1 ≡ b → (t : ℕ) → A f t → t < x + 1 →
-        Within x (Asks (foundIn table at) file shape target (shape .gates) f) t
+        Within x (AsksAll (foundIn table at) file shape target f) t
     filling-asked x e t a h =
         record {
           some = facts f t a .2;

@@ -9,7 +9,7 @@ use lib.ListN.{length, getD, set, drop}
 use Rattle.netlist.specs.declared.Shape.{Shape}
 use Rattle.netlist.specs.Holds.{Holds}
 use Rattle.pairs.specs.Pairs.{flatPairs}
-use Rattle.pairs.specs.Table.{Marked, Adds, Highest, LastWord, Within, Asks}
+use Rattle.pairs.specs.Table.{Marked, Adds, Highest, LastWord, Within, AsksAll}
 use Rattle.pairs.specs.Promise.{Tops, pairsAt}
 use Rattle.pairs.proofs.Topping.{top-read}
 use Rattle.pairs.proofs.Step.{AskedAt, facts-of}
@@ -80,7 +80,7 @@ module _ {file : List ℕ} {shape : Shape} (holds : Holds file shape) (target : 
         -- on to the node below, whose top is x
         pub finding-down : {tops marks′ : List ℕ} (x : ℕ) → shape .inputs < f → Tops file shape tops →
             x ≡ getD tops (f - 1) 0 →
-            Adds marks (Within x (Asks (foundIn table at) file shape target (shape .gates) (f - 1))) marks′ →
+            Adds marks (Within x (AsksAll (foundIn table at) file shape target (f - 1))) marks′ →
             x / 64 + 1 < length marks′ → Finding file shape target table₀ table at (f - 1) marks′ (x / 64 + 1) bits
         finding-down {marks′ = marks′} x h tops q more r =
             let down = filling-down holds target (w .filling) (scanning-none done) h tops x q in

@@ -1,10 +1,22 @@
 -- Pairs as numbers and back: two numbers a pair, so that pair k stands at 2k and 2k + 1. Laws: pairs-flat, flat-length,
--- pairs-length, pairs-at, key-here, node-here, time-here; mem-at, at-mem; part. Assumes nothing.
+-- pairs-length, pairs-at, key-here, node-here, time-here; mem-at, at-mem; zeros-at; part. Assumes
+-- nothing.
 use mathlib.Core.Path.{_≡_, refl, sym, ap}
 use mathlib.Core.List.{List, [], _∷_, List·Memᴰ, List·Memᴰ·head, List·Memᴰ·tail}
 use Prim.Native.Nat.{ℕ, zero, suc, _+_, _*_, _-_, _/_, _<_}
 use native.Mathlib.Omega.{arith}
-use lib.ListN.{length, getD, take, drop, length-drop}
+use native.Mathlib.Decide.{decLt}
+use lib.ListN.{
+  length,
+  getD,
+  take,
+  drop,
+  replicate,
+  length-drop,
+  length-replicate,
+  getD-replicate,
+  List·getD-eq-default,
+}
 use lib.Seq.{take-all}
 use Rattle.pairs.specs.Pairs.{flatPairs}
 use Rattle.pairs.specs.Table.{pairsIn, pairAt, keyOf}
@@ -20,6 +32,14 @@ module _ {A : Type 0} (d : A) where
   pub at-mem : (l : List A) (x : A) → List·Memᴰ x l → (k : ℕ) × (k < length l) × (getD l k d ≡ x)
   at-mem (y ∷ l) x (List·Memᴰ·head e) = (0, omega arith, sym e)
   at-mem (y ∷ l) x (List·Memᴰ·tail m) = let w = at-mem l x m in (suc (w .0), omega (arith, w .1), w .2)
+
+-- each of some zeros, and what is read after them
+pub zeros-at : (n k : ℕ) → _≡_ {A = ℕ} (getD (replicate n 0) k 0) 0
+zeros-at n k = go (decLt k n)
+  where
+    go : Dec (k < n) → _≡_ {A = ℕ} (getD (replicate n 0) k 0) 0
+    go (yes h) = getD-replicate {A = ℕ} n k 0 0 h
+    go (no h) = List·getD-eq-default (replicate n 0) 0 {n = k} (rw length-replicate (omega arith))
 
 -- a part up to the end
 pub part : (t : List ℕ) (k : ℕ) → take (length t - k) (drop k t) ≡ drop k t

@@ -10,6 +10,8 @@ pub mod Search
 pub mod Bits
 pub mod Marking
 pub mod Asking
+pub mod Linking
+pub mod Walking
 pub mod Scanning
 pub mod Moving
 pub mod Topping

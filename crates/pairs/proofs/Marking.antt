@@ -6,12 +6,13 @@ use mathlib.Core.Logic.{_⊎_, inl, inr}
 use mathlib.Core.List.{List}
 use Prim.Native.Nat.{ℕ, _+_, _*_, _-_, _/_, _%_, _^_, _<_, _≤_}
 use native.Mathlib.Omega.{arith}
-use native.Mathlib.Decide.{decLt, ℕ-discrete}
+use native.Mathlib.Decide.{ℕ-discrete}
 use lib.Bits.{bitOr}
-use lib.ListN.{length, getD, set, replicate, length-replicate, getD-replicate, List·getD-eq-default}
+use lib.ListN.{length, getD, set, replicate}
 use lib.Seq.{getD-set-same, getD-set-other}
 use lib.Pow.{pow-pos}
 use Rattle.pairs.specs.Table.{bitAt, Marked, Adds}
+use Rattle.pairs.proofs.Flat.{zeros-at}
 use Rattle.pairs.proofs.Bits.{bit-none, set-here, set-other}
 
 -- a word without bits holds no mark
@@ -24,11 +25,7 @@ no-mark {marks} {t} e m =
 
 -- zeros hold none
 pub no-marks : (n t : ℕ) → Marked (replicate n 0) t → ⊥
-no-marks n t m = no-mark (at (decLt (t / 64) n)) m
-  where
-    at : Dec (t / 64 < n) → _≡_ {A = ℕ} (getD (replicate n 0) (t / 64) 0) 0
-    at (yes h) = getD-replicate {A = ℕ} n (t / 64) 0 0 h
-    at (no h) = List·getD-eq-default (replicate n 0) 0 {n = t / 64} (rw length-replicate (omega arith))
+no-marks n t m = no-mark (zeros-at n (t / 64)) m
 
 -- the words after one are empty, and so is that one
 pub words-more : (marks : List ℕ) (from word : ℕ) →

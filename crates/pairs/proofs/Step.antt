@@ -25,7 +25,7 @@ use Rattle.netlist.proofs.Valid.{valid-gates, valid-outputs, fits-below}
 use Rattle.settle.specs.Settling.{topOf}
 use Rattle.settle.proofs.Nodes.{tops-small}
 use Rattle.pairs.specs.Pairs.{isPair, Asked, output, driver}
-use Rattle.pairs.specs.Table.{PinAsks, Asks, byOutput, byGate}
+use Rattle.pairs.specs.Table.{PinAsks, AsksAll, byOutput, byPin}
 use Rattle.pairs.proofs.Least.{pair-facts, member-is-pair, asked-below}
 
 -- the least set of an accepted file's target
@@ -67,8 +67,7 @@ module _ {file : List ℕ} {shape : Shape} (holds : Holds file shape) (target : 
 
   -- what is asked for is asked for by an output, or by a pair that is known
   pub stepped : (l : List (ℕ × ℕ)) (f t : ℕ) → AskedAt file shape target f t →
-      ((n s : ℕ) → f < n → AskedAt file shape target n s → List·Memᴰ (n, s) l) →
-      Asks l file shape target (shape .gates) f t
+      ((n s : ℕ) → f < n → AskedAt file shape target n s → List·Memᴰ (n, s) l) → AsksAll l file shape target f t
   stepped l f t (output m u) h = byOutput (record { same = refl; output = m })
   stepped l f t (driver {f = n} {s = s} {g = g} {p = p} m i a u) h =
       let w = node-only file shape (n, g) m in
@@ -76,8 +75,7 @@ module _ {file : List ℕ} {shape : Shape} (holds : Holds file shape) (target : 
       let cell : g ≡ cellAt file shape (w .0) = ap (λ (x : ℕ × Cell). x .1) (w .2) in
       let v = pin-only file shape (w .0) p (subst (λ (x : Cell). List·Memᴰ p (x .pins)) cell i) in
       let below = fits-below (n, g) (all-at gateFits (nodes net) (valid-gates net (holds .valid)) (n, g) m) p i in
-      let first = firstAt file shape (w .0) in
-      let k : first + (v .0 - firstAt file shape (w .0)) ≡ v .0 = omega (arith, v .1) in
+      let k : firstAt file shape (w .0) + (v .0 - firstAt file shape (w .0)) ≡ v .0 = omega (arith, v .1) in
       let drives : p .driver ≡ driverAt file shape (v .0) =
       ap (λ (x : Pin). x .driver) (v .3) ∙ pin-driver file shape (v .0)
       in
@@ -88,39 +86,45 @@ module _ {file : List ℕ} {shape : Shape} (holds : Holds file shape) (target : 
       pair-facts (net .inputs) (topOf (circuitAt file shape)) (net .outputs) target (p .driver) (s - p .delay) u
       in
       let back : s ≡ s - p .delay + delayAt file shape (v .0) = omega (arith, c .1) in
-      byGate (w .0) (w .1) (omega arith)
+      byPin (w .0, delayAt file shape (v .0))
       (record {
-        pin = v .0 - firstAt file shape (w .0);
-        within = omega (arith, v .1, v .2);
-        drives = ap (driverAt file shape) k ∙ sym drives;
-        asks =
-            subst (λ (x : ℕ). PinAsks l (shape .inputs + w .0) (delayAt file shape x) (s - p .delay)) (sym k)
-            (record {
-              has =
-                  subst (λ (x : ℕ × ℕ). List·Memᴰ x l) (ap₂ (λ (x y : ℕ). (x, y)) at back)
-                  (h n s below a);
-            });
+        gate = w .0;
+        low = w .1;
+        own =
+            record {
+              pin = v .0 - firstAt file shape (w .0);
+              within = omega (arith, v .1, v .2);
+              drives = ap (driverAt file shape) k ∙ sym drives;
+              is = ap (λ (y : ℕ). (w .0, delayAt file shape y)) (sym k);
+            };
+      })
+      (record {
+        has =
+            subst (λ (x : ℕ × ℕ). List·Memᴰ x l) (ap₂ (λ (x y : ℕ). (x, y)) at back)
+            (h n s below a);
       })
 
   -- and back
-  pub asked-of : (l : List (ℕ × ℕ)) (f t : ℕ) → Asks l file shape target (shape .gates) f t →
+  pub asked-of : (l : List (ℕ × ℕ)) (f t : ℕ) → AsksAll l file shape target f t →
       ((x : ℕ × ℕ) → List·Memᴰ x l → AskedAt file shape target (x .0) (x .1)) → IsPairAt file shape target f t →
       AskedAt file shape target f t
   asked-of l f t (byOutput u) h i =
       subst (λ (x : ℕ). AskedAt file shape target f x) (sym (u .same))
       (output (u .output) (subst (λ (x : ℕ). IsPairAt file shape target f x) (u .same) i))
-  asked-of l f t (byGate j w k u) h i =
-      let pin = firstAt file shape j + u .pin in
-      let delay = delayAt file shape (firstAt file shape j + u .pin) in
-      let m = node-has file shape j w in
-      let own = pin-has file shape j pin (omega arith) (omega (arith, u .within)) in
-      let drives : pinAt file shape pin .driver ≡ f = pin-driver file shape pin ∙ u .drives in
-      let delays : pinAt file shape pin .delay ≡ delayAt file shape (firstAt file shape j + u .pin) =
+  asked-of l f t (byPin x y u) h i =
+      let o = y .own in
+      let pin = firstAt file shape (y .gate) + o .pin in
+      let delay = delayAt file shape (firstAt file shape (y .gate) + o .pin) in
+      let asks = subst (λ (z : ℕ × ℕ). PinAsks l (shape .inputs + z .0) (z .1) t) (o .is) u in
+      let m = node-has file shape (y .gate) (y .low) in
+      let own = pin-has file shape (y .gate) pin (omega arith) (omega (arith, o .within)) in
+      let drives : pinAt file shape pin .driver ≡ f = pin-driver file shape pin ∙ o .drives in
+      let delays : pinAt file shape pin .delay ≡ delayAt file shape (firstAt file shape (y .gate) + o .pin) =
       pin-delay file shape pin
       in
       let d : t + delay - pinAt file shape pin .delay ≡ t = omega (arith, delays) in
-      subst (λ (x : ℕ). AskedAt file shape target f x) d
-      (subst (λ (x : ℕ). AskedAt file shape target x (t + delay - pinAt file shape pin .delay)) drives
-      (driver m own (h (shape .inputs + j, t + delay) (u .asks .has))
-      (subst (λ (x : ℕ). IsPairAt file shape target (pinAt file shape pin .driver) x) (sym d)
-      (subst (λ (x : ℕ). IsPairAt file shape target x t) (sym drives) i))))
+      subst (λ (z : ℕ). AskedAt file shape target f z) d
+      (subst (λ (z : ℕ). AskedAt file shape target z (t + delay - pinAt file shape pin .delay)) drives
+      (driver m own (h (shape .inputs + y .gate, t + delay) (asks .has))
+      (subst (λ (z : ℕ). IsPairAt file shape target (pinAt file shape pin .driver) z) (sym d)
+      (subst (λ (z : ℕ). IsPairAt file shape target z t) (sym drives) i))))

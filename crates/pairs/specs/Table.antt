@@ -3,7 +3,7 @@
 use mathlib.Core.Path.{_≡_}
 use mathlib.Core.List.{List, [], _∷_, List·Memᴰ}
 use mathlib.Core.Logic.{_⊎_}
-use Prim.Native.Nat.{ℕ, suc, _+_, _*_, _/_, _%_, _^_, _≤_, _<_}
+use Prim.Native.Nat.{ℕ, suc, _+_, _-_, _*_, _/_, _%_, _^_, _≤_, _<_}
 use lib.ListN.{length, getD, drop}
 use Rattle.netlist.specs.declared.Shape.{Shape}
 use Rattle.netlist.specs.File.{firstAt, countAt, driverAt, delayAt, netlistAt}
@@ -91,24 +91,61 @@ pub record Within (top : ℕ) (Has : ℕ → Type 0) (t : ℕ) : Type 0 where
 pub record PinAsks (l : List (ℕ × ℕ)) (n delay t : ℕ) : Type 0 where
   pub has : List·Memᴰ (n, t + delay) l
 
--- one of `count` pins of node n, from the file's pin `first` on
-pub record GateAsks (l : List (ℕ × ℕ)) (file : List ℕ) (shape : Shape) (first count n f t : ℕ) : Type 0 where
-  pub pin : ℕ
-  pub within : pin < count
-  pub drives : driverAt file shape (first + pin) ≡ f
-  pub asks : PinAsks l n (delayAt file shape (first + pin)) t
-
 -- an output, at the target
 pub record OutputAsks (file : List ℕ) (shape : Shape) (target f t : ℕ) : Type 0 where
   pub same : t ≡ target
   pub output : List·Memᴰ f (netlistAt file shape .outputs)
 
--- an output, or one of the first i gates
-pub data Asks (l : List (ℕ × ℕ)) (file : List ℕ) (shape : Shape) (target i f t : ℕ) : Type 0 where
-  byOutput : OutputAsks file shape target f t → Asks l file shape target i f t
-  byGate : (j : ℕ) → j < i → f < shape .inputs + j →
-      GateAsks l file shape (firstAt file shape j) (countAt file shape j) (shape .inputs + j) f t →
-      Asks l file shape target i f t
+-- one of `count` pins of gate i, from the file's pin `first` on, as the gate's number and the delay
+pub record GateDrives (file : List ℕ) (shape : Shape) (first count i f : ℕ) (x : ℕ × ℕ) : Type 0 where
+  pub pin : ℕ
+  pub within : pin < count
+  pub drives : driverAt file shape (first + pin) ≡ f
+  pub is : x ≡ (i, delayAt file shape (first + pin))
+
+-- a pin of one of the first i gates
+pub record Drives (file : List ℕ) (shape : Shape) (i f : ℕ) (x : ℕ × ℕ) : Type 0 where
+  pub gate : ℕ
+  pub low : gate < i
+  pub own : GateDrives file shape (firstAt file shape gate) (countAt file shape gate) gate f x
+
+-- an output, or a pin of these, each the number of its gate and its delay
+pub data Asks (Pin : ℕ × ℕ → Type 0) (l : List (ℕ × ℕ)) (file : List ℕ) (shape : Shape) (target f t : ℕ) :
+    Type 0 where
+  byOutput : OutputAsks file shape target f t → Asks Pin l file shape target f t
+  byPin : (x : ℕ × ℕ) → Pin x → PinAsks l (shape .inputs + x .0) (x .1) t → Asks Pin l file shape target f t
+
+-- a pin that f drives
+abbrev pub AsksAll : List (ℕ × ℕ) → List ℕ → Shape → ℕ → ℕ → ℕ → Type 0
+AsksAll l file shape target f t = Asks (Drives file shape (shape .gates) f) l file shape target f t
+
+-- ---- the pins that a node drives, in chains of links
+
+-- link number e, counted from 1, holds a pin's gate and delay and the number of the next link
+pub record Link (links : List ℕ) (e next : ℕ) (x : ℕ × ℕ) : Type 0 where
+  pub some : 0 < e
+  pub within : e ≤ length links
+  pub back : next < e
+  pub gate-small : x .0 < 512
+  pub delay-small : x .1 < 1000
+  pub is : getD links (e - 1) 0 ≡ (next * 512 + x .0) * 1024 + x .1
+
+-- the links from number e on hold these pins, up to number 0
+abbrev pub Chain : List ℕ → ℕ → List (ℕ × ℕ) → Type 0
+Chain links e [] = e ≡ 0
+Chain links e (x ∷ l) = (next : ℕ) × Link links e next x × Chain links next l
+
+-- they are just the pins that have a property, by the first n links
+pub record Holding (Has : ℕ × ℕ → Type 0) (links : List ℕ) (n e : ℕ) : Type 0 where
+  pub pins : List (ℕ × ℕ)
+  pub chain : Chain links e pins
+  pub low : e ≤ n
+  pub each : (x : ℕ × ℕ) → List·Memᴰ x pins → Has x
+  pub all : (x : ℕ × ℕ) → Has x → List·Memᴰ x pins
+
+-- and so for each node, from its head on
+pub record Chains (Has : ℕ → ℕ × ℕ → Type 0) (heads links : List ℕ) (n : ℕ) : Type 0 where
+  pub of : (f : ℕ) → f < length heads → Holding (Has f) links n (getD heads f 0)
 
 -- the table's end holds the pairs l, or they are more than there is room for
 abbrev pub Kept : List (ℕ × ℕ) → ℕ → List ℕ → Filled → Type 0

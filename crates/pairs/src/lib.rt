@@ -5,7 +5,7 @@ ghost use mathlib.Core.Path.{_≡_};
 ghost use mathlib.Core.List.{List, _∷_, _++_};
 ghost use Prim.Native.Nat.{ℕ, _+_, _*_, _/_, _≤_, _<_, max, min};
 ghost use lib.ListN.{length, getD, take, drop};
-ghost use Rattle.netlist.specs.File.{cellAt, firstAt, countAt};
+ghost use Rattle.netlist.specs.File.{cellAt};
 ghost use Rattle.netlist.specs.Holds.{Holds};
 ghost use Rattle.settle.specs.Settling.{last, readyAt};
 ghost use Rattle.pairs.specs.Pairs.{pairPlace, tableHolds};
@@ -22,10 +22,11 @@ ghost use Rattle.pairs.specs.Table.{
   Highest,
   LastWord,
   Within,
+  Drives,
+  Chains,
   PinAsks,
-  GateAsks,
   OutputAsks,
-  Asks,
+  AsksAll,
   Kept,
 };
 ghost use Rattle.pairs.specs.Promise.{Topped, Tops, pairsAt, Held, Lists, Findable, Bounds, Begins};
@@ -181,36 +182,51 @@ fn mark_pin(done: &[u32], node: usize, delay: usize, top: usize, marks: &mut [us
     }
 }
 
-// Mark what the pins of a gate that f drives ask for, from 1 to the top.
-fn mark_gate(
-    done: &[u32],
+// The pins of a gate, each linked before the others that its driver drives. A link is the next link's number, counted
+// from 1, with the gate's number and the pin's delay.
+fn link_gate(
     file: &[u8],
     shape: Shape,
     number: usize,
-    f: usize,
-    top: usize,
-    marks: &mut [usize],
-)
-    requires { ⌜ Sorted (pairsIn (now done)) × Holds (now file) shape × (number < shape .gates) × (top < farTime)
-        × (top / 64 < length (now marks)) ⌝ }
-    ensures { λ _. ⌜ Adds (now (marks .entry))
-        (Within top (GateAsks (pairsIn (now (done .entry))) (now (file .entry)) shape
-        (firstAt (now (file .entry)) shape number) (countAt (now (file .entry)) shape number) (shape .inputs + number)
-        f)) (now (marks .exit)) ⌝ }
+    heads: &mut [u32],
+    links: &mut [u32],
+    from: usize,
+) -> usize
+    requires { ⌜ Holds (now file) shape × (number < shape .gates) × (shape .inputs + shape .gates ≤ length (now heads))
+        × (3584 ≤ length (now links)) × (from ≤ number * 8)
+        × Chains (Drives (now file) shape number) (now heads) (now links) from ⌝ }
+    ensures { λ r. ⌜ (r ≤ number * 8 + 8)
+        × Chains (Drives (now (file .entry)) shape (number + 1)) (now (heads .exit)) (now (links .exit)) r ⌝ }
 {
     let gate = netlist::gate_at(file, shape, number);
     let first = gate.first;
     let count = gate.count;
-    let node = shape.inputs + number;
+    let mut n = from;
     let mut k = 0;
     while k < count {
         let pin = first + k;
-        k += 1;
-        if netlist::driver_at(file, shape, pin) != f {
-            continue;
-        }
+        let driver = netlist::driver_at(file, shape, pin);
         let delay = netlist::delay_at(file, shape, pin);
-        mark_pin(done, node, delay, top, marks);
+        links[n] = ((lent::widen(heads[driver]) * 512 + number) * 1024 + delay) as u32;
+        n += 1;
+        heads[driver] = n as u32;
+        k += 1;
+    }
+    n
+}
+
+// All pins, linked by what drives them.
+fn link(file: &[u8], shape: Shape, heads: &mut [u32], links: &mut [u32])
+    requires { ⌜ Holds (now file) shape × (shape .inputs + shape .gates ≤ length (now heads))
+        × (3584 ≤ length (now links)) × ((f : ℕ) → getD (now heads) f 0 ≡ 0) ⌝ }
+    ensures { λ _. ⌜ Chains (Drives (now (file .entry)) shape (shape .gates)) (now (heads .exit)) (now (links .exit))
+        3584 ⌝ }
+{
+    let mut n = 0;
+    let mut i = 0;
+    while i < shape.gates {
+        n = link_gate(file, shape, i, heads, links, n);
+        i += 1;
     }
 }
 
@@ -236,27 +252,37 @@ fn mark_output(file: &[u8], shape: Shape, target: usize, f: usize, top: usize, m
     }
 }
 
-// Mark what is asked of f, from 1 to its top: by the outputs, and by the gates above it.
+// Mark what is asked of f, from 1 to its top: by the outputs, and by the pins that it drives.
 fn mark_asked(
     done: &[u32],
     file: &[u8],
     shape: Shape,
     target: usize,
+    heads: &[u32],
+    links: &[u32],
     f: usize,
     top: usize,
     marks: &mut [usize],
 )
-    requires { ⌜ Sorted (pairsIn (now done)) × Holds (now file) shape × (shape .inputs ≤ f)
-        × (f < shape .inputs + shape .gates) × (top < farTime) × (top / 64 < length (now marks)) ⌝ }
+    requires { ⌜ Sorted (pairsIn (now done)) × Holds (now file) shape × (f < shape .inputs + shape .gates)
+        × (shape .inputs + shape .gates ≤ length (now heads)) × (top < farTime) × (top / 64 < length (now marks))
+        × Chains (Drives (now file) shape (shape .gates)) (now heads) (now links) 3584 ⌝ }
     ensures { λ _. ⌜ Adds (now (marks .entry))
-        (Within top (Asks (pairsIn (now (done .entry))) (now (file .entry)) shape target (shape .gates) f))
+        (Within top (AsksAll (pairsIn (now (done .entry))) (now (file .entry)) shape target f))
         (now (marks .exit)) ⌝ }
 {
     mark_output(file, shape, target, f, top, marks);
-    let mut i = f + 1 - shape.inputs;
-    while i < shape.gates {
-        mark_gate(done, file, shape, i, f, top, marks);
-        i += 1;
+    let mut at = lent::widen(heads[f]);
+    while 0 < at {
+        let link = lent::widen(links[at - 1]);
+        mark_pin(
+            done,
+            shape.inputs + link / 1024 % 512,
+            link % 1024,
+            top,
+            marks,
+        );
+        at = link / 524288;
     }
 }
 
@@ -301,12 +327,15 @@ fn fill(
     shape: Shape,
     target: usize,
     tops: &[u32],
+    heads: &[u32],
+    links: &[u32],
     table: &mut [u32],
     marks: &mut [usize],
 ) -> Filled
     requires { ⌜ Holds (now file) shape × Tops (now file) shape (now tops)
         × (length (now table) / 2 * 2 ≡ length (now table)) × ((t : ℕ) → Marked (now marks) t → ⊥)
-        × (6994 < length (now marks)) ⌝ }
+        × (6994 < length (now marks)) × (shape .inputs + shape .gates ≤ length (now heads))
+        × Chains (Drives (now file) shape (shape .gates)) (now heads) (now links) 3584 ⌝ }
     ensures { λ r. ⌜ Kept (pairsAt (now (file .entry)) shape target) (length (now (table .entry)) / 2)
         (now (table .exit)) r ⌝ }
 {
@@ -327,7 +356,17 @@ fn fill(
             }
             f -= 1;
             let top = lent::widen(tops[f]);
-            mark_asked(&table[at * 2..], file, shape, target, f, top, marks);
+            mark_asked(
+                &table[at * 2..],
+                file,
+                shape,
+                target,
+                heads,
+                links,
+                f,
+                top,
+                marks,
+            );
             word = top / 64 + 1;
             continue;
         }
@@ -372,11 +411,16 @@ pub fn table(file: &[u8], shape: Shape, target: usize, tops: &[u32], table: &mut
 {
     let room = holds(table.len());
     let mut marks = [0usize; 6995];
+    let mut heads = [0u32; 512];
+    let mut links = [0u32; 3584];
+    link(file, shape, &mut heads, &mut links);
     let got = fill(
         file,
         shape,
         target,
         tops,
+        &heads,
+        &links,
         &mut table[..room * 2],
         &mut marks,
     );

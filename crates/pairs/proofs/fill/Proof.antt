@@ -24,16 +24,16 @@ use Rattle.pairs.proofs.fill.Statement.{statement}
 use Rattle.pairs.proofs.fill.Tie as tie
 
 abbrev Inv-loop : tie.InvT-loop
-Inv-loop file shape target tops table₀ marks₀ at₀ f₀ word₀ bits₀ table marks at f word bits =
+Inv-loop file shape target tops heads links table₀ marks₀ at₀ f₀ word₀ bits₀ table marks at f word bits =
     Finding file shape target table₀ table at f marks word bits × (length marks ≡ length marks₀)
 
 abbrev μ-loop : tie.MeasureT-loop
-μ-loop file shape target tops table₀ marks₀ at₀ f₀ word₀ bits₀ table marks at f word bits =
+μ-loop file shape target tops heads links table₀ marks₀ at₀ f₀ word₀ bits₀ table marks at f word bits =
     (f * 10000 + word) * 18446744073709551616 + bits
 
 -- the places: the start, and the top of the node below
 abbrev start : tie.At-loop Inv-loop μ-loop → tie.Start Inv-loop μ-loop
-start c = c .before .before .before .before .before .before
+start c = c .before .before .before .before .before .before .before .before
 
 lower-top : (c : tie.After-widen Inv-loop μ-loop) → c .widen .result ≤ 447552
 lower-top c =
@@ -58,7 +58,7 @@ add-f c = omega arith
 
 loop-holds : tie.Need-loop-holds Inv-loop μ-loop
 loop-holds c =
-    let given = c .before .before .before .before .before .pre in
+    let given = c .before .before .before .before .before .before .before .pre in
     (finding-starts (given .0) _ _ _ (given .2) (given .3) (omega (arith, given .4)), refl)
 
 sub-last-word : tie.Need-sub-last-word Inv-loop μ-loop
@@ -70,7 +70,8 @@ last-word-requires c κs = omega (arith, c .before .before .before .loop .inv .0
 mul-bits : tie.Need-mul-bits Inv-loop μ-loop
 mul-bits c =
     let turn = c .before .before .before .before in
-    omega (arith, c .last-word .ensures .within, turn .loop .inv .0 .scanning .room)
+    let good = start turn .good .1 .1 .1 .1 .1 .1 .1 .0 in
+    omega (arith, c .last-word .ensures .within, turn .loop .inv .0 .scanning .room, turn .loop .inv .1)
 
 slice-read-bits : tie.Need-slice-read-bits Inv-loop μ-loop
 slice-read-bits c =
@@ -80,7 +81,8 @@ slice-read-bits c =
 mul-marks : tie.Need-mul-marks Inv-loop μ-loop
 mul-marks c =
     let turn = c .before .before .before .before .before in
-    omega (arith, c .before .last-word .ensures .within, turn .loop .inv .0 .scanning .room)
+    let good = start turn .good .1 .1 .1 .1 .1 .1 .1 .0 in
+    omega (arith, c .before .last-word .ensures .within, turn .loop .inv .0 .scanning .room, turn .loop .inv .1)
 
 slice-write-marks : tie.Need-slice-write-marks Inv-loop μ-loop
 slice-write-marks c =
@@ -142,10 +144,11 @@ mark-asked-requires c κs =
     let top = lower-top widened in (
       filling-sorted (given .0) _ (turn .loop .inv .0 .filling),
       given .0,
-      omega (arith, widened .before .before .if3 .left),
       omega (arith, turn .loop .inv .0 .filling .nodes),
+      given .5,
       omega arith,
       omega (arith, given .4, turn .loop .inv .1),
+      given .6,
     )
 
 add-word : tie.Need-add-word Inv-loop μ-loop

@@ -1,11 +1,12 @@
 -- `pairs::table` meets its contract: filled, moved to the front, and zeros after it; or zeros. Assumes nothing.
 use mathlib.Core.Path.{_≡_, sym}
-use Prim.Native.Nat.{_+_, _*_}
+use Prim.Native.Nat.{_+_, _-_, _*_, _≤_}
 use native.Mathlib.Omega.{arith}
 use borrow.Author.Needs.{needs}
 use lib.ListN.{length, take}
-use lib.Seq.{length-take-le}
+use lib.Seq.{length-take-le, length-front}
 use Rattle.pairs.specs.Promise.{pairsAt}
+use Rattle.pairs.proofs.Flat.{zeros-at}
 use Rattle.pairs.proofs.Marking.{no-marks}
 use Rattle.pairs.proofs.Whole.{filled-from, table-held, table-full}
 use Rattle.pairs.proofs.table.Statement.{statement}
@@ -16,7 +17,7 @@ abbrev start : tie.After-holds → tie.Start
 start c = c .before .before .before .before
 
 abbrev sized : tie.After-fill → tie.After-holds
-sized c = c .before .before .before
+sized c = c .before .before .before .before .before .before .before .before .before .before
 
 abbrev filled : tie.After-known-told → tie.After-fill
 filled c = c .before .before .before .before .before .before
@@ -39,23 +40,48 @@ room c =
 holds-requires : tie.Need-holds-requires
 holds-requires c κs = search needs
 
+slice-aggregate-link : tie.Need-slice-aggregate-link
+slice-aggregate-link c = search needs
+
+slice-aggregate-link-2 : tie.Need-slice-aggregate-link-2
+slice-aggregate-link-2 c = search needs
+
+link-requires : tie.Need-link-requires
+link-requires c κs =
+    let given = start (c .before .before) .pre in
+    (given .0, omega (arith, given .0 .counts .inputs-few, given .0 .counts .gates-few), search needs, zeros-at 512)
+
+slice-aggregate-fill : tie.Need-slice-aggregate-fill
+slice-aggregate-fill c = search needs
+
+slice-aggregate-fill-2 : tie.Need-slice-aggregate-fill-2
+slice-aggregate-fill-2 c = search needs
+
 mul-fill : tie.Need-mul-fill
 mul-fill c = search needs
 
 slice-relend-prefix-fill : tie.Need-slice-relend-prefix-fill
 slice-relend-prefix-fill c = search needs
 
-slice-aggregate-fill : tie.Need-slice-aggregate-fill
-slice-aggregate-fill c = sym (lent (c .before))
+slice-aggregate-fill-3 : tie.Need-slice-aggregate-fill-3
+slice-aggregate-fill-3 c = sym (lent (c .before .before .before .before .before .before .before .before))
 
-slice-aggregate-fill-2 : tie.Need-slice-aggregate-fill-2
-slice-aggregate-fill-2 c = search needs
+slice-aggregate-fill-4 : tie.Need-slice-aggregate-fill-4
+slice-aggregate-fill-4 c = search needs
 
 fill-requires : tie.Need-fill-requires
 fill-requires c κs =
-    let whole = c .before .before in
-    let given = start whole .pre in
-    (given .0, given .1, omega (arith, lent whole), no-marks 6995, search needs)
+    let linked = c .before .before .before .before .before .before in
+    let whole = linked .before .before .before in
+    let given = start whole .pre in (
+      given .0,
+      given .1,
+      omega (arith, lent whole),
+      no-marks 6995,
+      search needs,
+      omega (arith, given .0 .counts .inputs-few, given .0 .counts .gates-few),
+      linked .link .ensures,
+    )
 
 enum-known-got : tie.Need-enum-known-got
 enum-known-got c = search needs
@@ -72,8 +98,16 @@ mul-move-down-2 c = search needs
 move-down-requires : tie.Need-move-down-requires
 move-down-requires c κs =
     let told = c .before in
-    let same = filled told .fill .kept .1 .1 .1 .1 .0 in
-    omega (arith, room told, lent (sized (filled told)))
+    let done = filled told in
+    let whole = sized done in
+    let table = start whole .args .table .now in
+    let same = done .fill .kept .1 .1 .1 .1 .1 .1 .0 in
+    let long = length-front table (done .fill .last .1 .1 .1 .1 .1 .1 .0) (whole .holds .result * 2) (omega arith) in
+    let fits : told .before .got .given .0 .0 * 2 + (whole .holds .result - told .before .got .given .0 .0) * 2
+    ≤ length (start whole .args .table .now) =
+    omega (arith, room told, whole .holds .ensures)
+    in
+    omega (arith, fits, long)
 
 mul-zero-rest-u32 : tie.Need-mul-zero-rest-u32
 mul-zero-rest-u32 c = search needs
@@ -96,7 +130,7 @@ returns c =
     let done = filled told in
     let whole = sized done in
     let moved = c .before .before .before .before .before .before in
-    let same = done .fill .kept .1 .1 .1 .1 .0 in
+    let same = done .fill .kept .1 .1 .1 .1 .1 .1 .0 in
     let long = moved .move-down .kept in
     table-held _ (start whole .args .table .now) _ _ _ (whole .holds .ensures) (done .fill .ensures) _ _ _
     (told .before .got .given .1) (omega arith) (moved .move-down .ensures) (omega arith)
@@ -109,7 +143,7 @@ returns-2 : tie.Need-returns-2
 returns-2 c =
     let done = c .before .before .before .before .before .before .before .before .before in
     let whole = sized done in
-    let same = done .fill .kept .1 .1 .1 .1 .0 in
+    let same = done .fill .kept .1 .1 .1 .1 .1 .1 .0 in
     table-full _ (start whole .args .table .now) _ _ _ (whole .holds .ensures) (done .fill .ensures) _
     (c .before .before .before .before .enum-told .given .1)
     (omega arith) (c .before .before .zero-rest-u322 .ensures)
@@ -119,10 +153,15 @@ table-spec =
     tie.close
     (tie.spec
     holds-requires
-    mul-fill
-    slice-relend-prefix-fill
+    slice-aggregate-link
+    slice-aggregate-link-2
+    link-requires
     slice-aggregate-fill
     slice-aggregate-fill-2
+    mul-fill
+    slice-relend-prefix-fill
+    slice-aggregate-fill-3
+    slice-aggregate-fill-4
     fill-requires
     enum-known-got
     sub-n
