@@ -1,7 +1,8 @@
 -- The laws, one file a step: Emission (runs of numbers, one after the other), Gates (what is put for one gate), Late
--- ("late at t" and its code), Asking (what was read of drivers and outputs, and what they add), PairClauses (what is put
--- for one pair), Numbers (what was put is the list's numbers), Table (the lent table is what the code leans on), Whole
--- (what is put is the formula), Rows (the rows of the promise), Unique (one answer and one content for each input).
+-- ("late at t" and its code), Asking (what was read of drivers and outputs, and what they add), PairClauses (what is
+-- put for one pair), Numbers (what was put is the list's numbers), Table (the lent table is what the code leans on),
+-- Whole (what is put is the formula), Rows (the rows of the promise), Unique (one answer and one content for each
+-- input).
 pub mod Emission
 pub mod Gates
 pub mod Late
