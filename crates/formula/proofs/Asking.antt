@@ -14,26 +14,36 @@ use Rattle.basics.specs.Lists.{any, concatMap, upFrom}
 use Rattle.basics.proofs.Lists.{any-append, any-map, concatMap-append}
 use Rattle.netlist.specs.declared.Shape.{Shape}
 use Rattle.netlist.specs.Netlist.{Pin}
-use Rattle.netlist.specs.File.{pinAt, pinsFrom, netlistAt}
+use Rattle.netlist.specs.File.{driverAt, pinAt, pinsFrom, netlistAt}
 use Rattle.netlist.proofs.Ranges.{upFrom-append, map-upFrom-at}
 use Rattle.clauses.specs.Codes.{literalCode}
-use Rattle.formula.specs.declared.Asked.{Asked}
 use Rattle.formula.specs.declared.Share.{Share}
 use Rattle.formula.specs.declared.Share.the-variants.{Forced, Driver, Control}
 use Rattle.formula.specs.declared.Side.{Side}
 use Rattle.formula.specs.declared.Side.the-variants.{Pins, Outputs}
-use Rattle.netlist.specs.declared.Kind.the-variants.{Simple}
+use Rattle.netlist.specs.declared.Kind.the-variants.{Simple, Parity, Mux}
 use Rattle.formula.specs.Formula.{Part, literal, isSure, clauseOf, nodeVariable, gateClauses}
-use Rattle.formula.specs.Emission.{Token, ended, wants, tokensOf, codeRun, shareRun, lateRun}
+use Rattle.formula.specs.Emission.{
+  Token,
+  ended,
+  wants,
+  tokensOf,
+  codeRun,
+  shareRun,
+  sharesRun,
+  lateRun,
+  simpleRun,
+  choiceRun,
+}
 use Rattle.formula.specs.Late.{
   Lent,
   partCode,
   partRun,
   lateIn,
+  entries,
   nodeAt,
   timeAt,
   lateAt,
-  askedAt,
   pinLate,
   pinControl,
   driversLate,
@@ -43,32 +53,21 @@ use Rattle.formula.specs.Late.{
   Reads,
 }
 use Rattle.formula.proofs.Late.{late-sure, late-run, late-control, clause-run}
-use Rattle.formula.proofs.Gates.{pinRun, simple-tokens}
+use Rattle.formula.proofs.Gates.{pinRun, simple-tokens, parity-tokens, mux-tokens}
 
 -- ---- reading
 
--- what is asked for, by its parts
-pub asked-as : (file : List ℕ) (l : Lent) (side : Side) (t entry : ℕ) {node time late : ℕ} →
-    node ≡ nodeAt file (l .shape) side entry → time ≡ timeAt file (l .shape) side t entry →
-    late ≡ partCode (lateIn l node time) → record { node = node; late = late } ≡ askedAt file l side t entry
-asked-as file l side t entry e f g =
-    let asked : ℕ → ℕ → Asked = λ n m. record { node = n; late = m } in
-    ap₂ asked e (g ∙ ap₂ (λ (n m : ℕ). partCode (lateIn l n m)) e f)
-
 -- the same side by another name
-pub served-as : {file : List ℕ} {l : Lent} {side other : Side} {first count t : ℕ} → side ≡ other →
-    Served file l side first count t → Served file l other first count t
-served-as {file} {l} {first = first} {count = count} {t = t} e s =
-    subst (λ (x : Side). Served file l x first count t) e s
+pub entry-as : (shape : Shape) {side other : Side} {entry : ℕ} → side ≡ other → entry < entries shape side →
+    entry < entries shape other
+entry-as shape {entry = entry} e h = subst (λ (x : Side). entry < entries shape x) e h
 
 -- one of the entries that are served
-pub served-one : {file : List ℕ} {l : Lent} {side : Side} {first count t : ℕ} → Served file l side first count t →
-    (i : ℕ) → i < count → Served file l side (first + i) 1 t
-served-one s i h =
-    record {
-      within = omega (arith, s .within);
-      asks = λ entry x y. s .asks entry (omega arith) (omega arith);
-    }
+pub asks-read : {file : List ℕ} {l : Lent} {side : Side} {first count t node time : ℕ} (i : ℕ) →
+    Served file l side first count t → i < count → node ≡ nodeAt file (l .shape) side (first + i) →
+    time ≡ timeAt file (l .shape) side t (first + i) → Asking l node time
+asks-read {l = l} {first = first} i s h e f =
+    rw (e, f) (s .asks (first + i) (omega arith) (omega arith))
 
 -- one more number was stored
 module _ (f : ℕ → ℕ) (first i v : ℕ) (xs : List ℕ) where
@@ -84,18 +83,25 @@ pub reads-none : (file : List ℕ) (l : Lent) (side : Side) (first t : ℕ) (nod
     Reads file l side first 0 t nodes lates false
 reads-none file l side first t nodes lates = record { nodes-are = refl; lates-are = refl; some-is = refl }
 
-pub reads-more : {file : List ℕ} {l : Lent} {side : Side} {first i t : ℕ} {nodes lates : List ℕ} {some : Bool}
-    (node late : ℕ) → Reads file l side first i t nodes lates some → i < length nodes → i < length lates →
-    node ≡ nodeAt file (l .shape) side (first + i) → late ≡ partCode (lateAt file l side t (first + i)) →
-    Reads file l side first (i + 1) t (set nodes i node) (set lates i late) (some || eqb late 1)
-reads-more {file} {l} {side} {first} {i} {t} {nodes} {lates} {some} node late r h k e f =
+pub reads-more : {file : List ℕ} {l : Lent} {side : Side} {first i t : ℕ} {nodes lates nodes′ lates′ : List ℕ}
+    {some : Bool} (node late : ℕ) → Reads file l side first i t nodes lates some → i < length nodes → i < length lates →
+    node ≡ nodeAt file (l .shape) side (first + i) →
+    {time : ℕ} → time ≡ timeAt file (l .shape) side t (first + i) → late ≡ partCode (lateIn l node time) →
+    nodes′ ≡ set nodes i node → lates′ ≡ set lates i late →
+    Reads file l side first (i + 1) t nodes′ lates′ (some || eqb late 1)
+reads-more {file} {l} {side} {first} {i} {t} {nodes} {lates} {nodes′} {lates′} {some} node late r h k d {time} e c n m =
     let test : ℕ → Bool = λ entry. isSure (lateAt file l side t entry) in
+    let f : late ≡ partCode (lateAt file l side t (first + i)) =
+    c ∙ ap₂ (λ (x y : ℕ). partCode (lateIn l x y)) d e in
     record {
-      nodes-are = next-stored (nodeAt file (l .shape) side) first i node nodes (r .nodes-are) h e;
-      lates-are = next-stored (λ entry. partCode (lateAt file l side t entry)) first i late lates (r .lates-are) k f;
+      nodes-are =
+          ap (take (i + 1)) n ∙ next-stored (nodeAt file (l .shape) side) first i node nodes (r .nodes-are) h d;
+      lates-are =
+          ap (take (i + 1)) m
+          ∙ next-stored (λ entry. partCode (lateAt file l side t entry)) first i late lates (r .lates-are) k f;
       some-is =
           ap₂ (λ (a b : Bool). a || b) (r .some-is)
-          (ap (λ (n : ℕ). eqb n 1) f
+          (ap (λ (x : ℕ). eqb x 1) f
           ∙ late-sure l (nodeAt file (l .shape) side (first + i)) (timeAt file (l .shape) side t (first + i))
           ∙ sym (one (test (first + i))))
           ∙ sym (ap (any test) (upFrom-append first i 1) ∙ any-append test (upFrom first i) ((first + i) ∷ []));
@@ -150,7 +156,7 @@ module _ {file : List ℕ} {l : Lent} {side : Side} {first count t : ℕ} {nodes
 
   -- what each adds, by what it asks for
   shares-read : (share : Share) (own : ℕ) →
-      concatMap (λ i. shareRun share own (getD nodes i 0) (getD lates i 0)) (upFrom 0 count)
+      sharesRun share own nodes lates count
       ≡ concatMap (λ e. shareRun share own (nodeAt file (l .shape) side e) (partCode (lateAt file l side t e)))
       (upFrom first count)
   shares-read share own =
@@ -168,7 +174,9 @@ module _ {file : List ℕ} {l : Lent} {side : Side} {first count t : ℕ} {nodes
       let late : ℕ → Part ℕ = lateAt file l side t in
       let entries : List ℕ = upFrom first count in
       let s : some ≡ any isSure (hs ++ map late entries) =
-      r .some-is ∙ sym (any-append isSure hs (map late entries) ∙ ap (λ (b : Bool). b || any isSure (map late entries)) f
+      r .some-is
+      ∙ sym (any-append isSure hs (map late entries)
+      ∙ ap (λ (b : Bool). b || any isSure (map late entries)) f
       ∙ any-map isSure late entries) in
       let p : concatMap (λ i. codeRun (getD lates i 0)) (upFrom 0 count) ≡ concatMap partRun (map late entries) =
       from-zero (λ i. codeRun (getD lates i 0)) (λ n. partRun (late n)) first count
@@ -188,7 +196,7 @@ module _ {file : List ℕ} {l : Lent} {first count t : ℕ} {nodes lates : List 
   pins-read : (share : Share) (own : ℕ) →
       ((e : ℕ) → shareRun share own (nodeAt file (l .shape) Pins e) (partCode (lateAt file l Pins t e))
       ≡ pinRun share own (pinAt file (l .shape) e)) →
-      concatMap (λ i. shareRun share own (getD nodes i 0) (getD lates i 0)) (upFrom 0 count)
+      sharesRun share own nodes lates count
       ≡ concatMap (pinRun share own) (pinsFrom file (l .shape) first count)
   unfolding pinsFrom
   pins-read share own h =
@@ -198,9 +206,7 @@ module _ {file : List ℕ} {l : Lent} {first count t : ℕ} {nodes lates : List 
 
   -- a simple gate's clauses
   pub simple-read : (c k : Bool) (node : ℕ) →
-      ((concatMap (λ i. shareRun (Forced c k) (node + 1) (getD nodes i 0) (getD lates i 0)) (upFrom 0 count)
-      ++ concatMap (λ i. shareRun (Driver c) (node + 1) (getD nodes i 0) (getD lates i 0)) (upFrom 0 count))
-      ++ (wants (not k, node + 1) ∷ [])) ++ (ended ∷ [])
+      simpleRun c k node nodes lates count
       ≡ tokensOf (gateClauses nodeVariable (Simple c k) (pinsFrom file (l .shape) first count) node)
   unfolding pinAt
   simple-read c k node =
@@ -208,9 +214,29 @@ module _ {file : List ℕ} {l : Lent} {first count t : ℕ} {nodes lates : List 
       (pins-read (Forced c k) (node + 1) (λ e. refl)) (pins-read (Driver c) (node + 1) (λ e. refl))
       ∙ simple-tokens c k node (pinsFrom file (l .shape) first count)
 
+  -- a parity gate's clauses, and a multiplexer's
+  node-read : (i : ℕ) → i < count → getD nodes i 0 ≡ driverAt file (l .shape) (first + i)
+  node-read = stored-at (driverAt file (l .shape)) first count nodes (r .nodes-are)
+
+  first-read : 0 < count → getD nodes 0 0 ≡ driverAt file (l .shape) first
+  first-read h = let e : first + 0 ≡ first = omega arith in node-read 0 h ∙ ap (driverAt file (l .shape)) e
+
+  pub parity-read : (equal : Bool) (node : ℕ) → count ≡ 2 →
+      choiceRun (getD nodes 0 0) (getD nodes 1 0) (getD nodes 1 0) true equal (not equal) node
+      ≡ tokensOf (gateClauses nodeVariable (Parity equal) (pinsFrom file (l .shape) first count) node)
+  parity-read equal node n =
+      parity-tokens file (l .shape) first count node equal (first-read (omega arith)) (node-read 1 (omega arith)) n
+
+  pub mux-read : (node : ℕ) → count ≡ 3 →
+      choiceRun (getD nodes 0 0) (getD nodes 1 0) (getD nodes 2 0) false true true node
+      ≡ tokensOf (gateClauses nodeVariable Mux (pinsFrom file (l .shape) first count) node)
+  mux-read node n =
+      mux-tokens file (l .shape) first count node (first-read (omega arith)) (node-read 1 (omega arith))
+      (node-read 2 (omega arith)) n
+
   -- "-p, driver late, driver is not c"
   pub control-read : (c : Bool) (pair : ℕ) →
-      concatMap (λ i. shareRun (Control c) pair (getD nodes i 0) (getD lates i 0)) (upFrom 0 count)
+      sharesRun (Control c) pair nodes lates count
       ≡ concatMap (pinControl l c pair t) (pinsFrom file (l .shape) first count)
   unfolding pinsFrom pinAt
   control-read c pair =

@@ -1,7 +1,8 @@
 -- A run of tokens: runs follow one another, and a loop puts one run for each number from 0 on. Assumes nothing.
 use mathlib.Core.Path.{_≡_, refl, sym, ap, ap₂, _∙_, subst}
 use mathlib.Core.List.{List, [], _∷_, _++_, map, map-append, append-nil}
-use Prim.Native.Nat.{ℕ, _+_, _*_, _≤_}
+use Prim.Native.Nat.{ℕ, _+_, _*_, _≤_, _<_}
+use native.Mathlib.Nat.{mul-le-mul-right}
 use native.Mathlib.Omega.{arith}
 use lib.IntN.{ℤ}
 use lib.ListN.{length, length-append, length-map}
@@ -11,7 +12,7 @@ use Rattle.netlist.proofs.Ranges.{upFrom-append}
 use Rattle.clauses.specs.Codes.{written}
 use Rattle.clauses.proofs.Written.{written-append, written-length}
 use Rattle.formula.specs.declared.Emitted.{Emitted}
-use Rattle.formula.specs.Emission.{Token, coded, ended, tokenCode, ends, Emits}
+use Rattle.formula.specs.Emission.{Token, coded, ended, tokenCode, ends, Emits, Fits}
 
 ends-append : (xs ys : List Token) → ends (xs ++ ys) ≡ ends xs + ends ys
 ends-append [] ys = omega arith
@@ -52,6 +53,10 @@ module _ {most : ℕ} {xs : List Token} {before now : List ℤ} {from at : Emitt
       subst (λ (t : List Token). Emits more t before from now at) e
       (record { is = a .is; numbers = a .numbers; clauses = a .clauses; few = omega (arith, a .few); fewer = a .fewer })
 
+  -- so many numbers more fit after it
+  pub fits-then : (more : ℕ) → Fits (most + more) from → Emits most xs before from now at → Fits more at
+  fits-then more f a = record { place = omega (arith, f .place, a .few); fewer = a .fewer }
+
   pub emits-length : Emits most xs before from now at → length now ≡ length before
   emits-length a = ap length (a .is) ∙ written-length before (from .numbers) (map tokenCode xs)
 
@@ -64,7 +69,8 @@ pub record Emitting (each : ℕ) (run : ℕ → List Token) (i : ℕ) (before : 
 
 pub emitting-starts : (each : ℕ) (run : ℕ → List Token) (before : List ℤ) (at : Emitted) → at .clauses ≤ at .numbers →
     Emitting each run 0 before at before at
-emitting-starts each run before at h = record { emits = emits-as (0 * each) (emits-none before at h) refl (omega arith) }
+emitting-starts each run before at h =
+    record { emits = emits-as (0 * each) (emits-none before at h) refl (omega arith) }
 
 module _ {each : ℕ} {run : ℕ → List Token} {i : ℕ} {before now : List ℤ} {from at : Emitted} where
   pub emitting-more : {after : List ℤ} {to : Emitted} → Emitting each run i before from now at →
@@ -89,6 +95,15 @@ module _ {each : ℕ} {run : ℕ → List Token} {i : ℕ} {before now : List �
       let e : i ≡ count = omega arith in
       emits-as most (subst (λ (n : ℕ). Emits (n * each) (concatMap run (upFrom 0 n)) before from now at) e (b .emits))
       refl m
+
+  -- the next run fits
+  pub emitting-fits : (count : ℕ) → Fits (count * each) from → Emitting each run i before from now at → i < count →
+      Fits each at
+  emitting-fits count f b h =
+      let few = b .emits .few in
+      let place = f .place in
+      let next : (i + 1) * each ≤ count * each = mul-le-mul-right each (omega arith) in
+      record { place = omega arith; fewer = b .emits .fewer }
 
   pub emitting-length : Emitting each run i before from now at → length now ≡ length before
   emitting-length b = emits-length (b .emits)

@@ -7,7 +7,6 @@ use native.Mathlib.Omega.{arith}
 use native.Mathlib.Numerals.{add-one}
 use Rattle.basics.specs.Lists.{concatMap}
 use Rattle.netlist.specs.declared.Shape.{Shape}
-use Rattle.netlist.specs.declared.Kind.{Kind}
 use Rattle.netlist.specs.declared.Kind.the-variants.{Simple, Parity, Mux}
 use Rattle.netlist.specs.declared.Gate.{Gate}
 use Rattle.netlist.specs.Netlist.{Pin}
@@ -16,7 +15,7 @@ use Rattle.clauses.specs.Clauses.{Literal}
 use Rattle.formula.specs.declared.Share.{Share}
 use Rattle.formula.specs.declared.Share.the-variants.{Forced, Driver}
 use Rattle.formula.specs.Formula.{nodeVariable, gateClauses}
-use Rattle.formula.specs.Emission.{Token, wants, ended, tokensOf, shareRun, chosenRun}
+use Rattle.formula.specs.Emission.{Token, wants, ended, tokensOf, shareRun, choiceRun}
 use Rattle.formula.specs.Late.{gateRun}
 
 -- the clauses of two lists are put one after the other
@@ -85,7 +84,7 @@ module _ (c k : Bool) (node : ℕ) where
 module _ (file : List ℕ) (shape : Shape) (first count node : ℕ) where
   pub parity-tokens : {p q : ℕ} (equal : Bool) → p ≡ driverAt file shape first → q ≡ driverAt file shape (first + 1) →
       count ≡ 2 →
-      chosenRun p q q true equal (not equal) node
+      choiceRun p q q true equal (not equal) node
       ≡ tokensOf (gateClauses nodeVariable (Parity equal) (pinsFrom file shape first count) node)
   unfolding gateClauses tokensOf pinsFrom pinAt
   parity-tokens {p} {q} true d e n =
@@ -97,7 +96,7 @@ module _ (file : List ℕ) (shape : Shape) (first count node : ℕ) where
 
   pub mux-tokens : {s a b : ℕ} → s ≡ driverAt file shape first → a ≡ driverAt file shape (first + 1) →
       b ≡ driverAt file shape (first + 2) → count ≡ 3 →
-      chosenRun s a b false true true node
+      choiceRun s a b false true true node
       ≡ tokensOf (gateClauses nodeVariable Mux (pinsFrom file shape first count) node)
   unfolding gateClauses tokensOf pinsFrom pinAt
   mux-tokens {s} {a} {b} d e h n =
@@ -108,13 +107,11 @@ module _ (file : List ℕ) (shape : Shape) (first count node : ℕ) where
 -- ---- a gate of a file
 
 -- what is put for a gate that was read is what the definition says of its cell
-pub gate-run : (file : List ℕ) (shape : Shape) (i : ℕ) (gate : Gate) {kind : Kind} → gate .kind ≡ kind →
-    gate ≡ gateAt file shape i →
-    tokensOf (gateClauses nodeVariable kind (pinsFrom file shape (gate .first) (gate .count)) (shape .inputs + i))
+pub gate-run : (file : List ℕ) (shape : Shape) (i : ℕ) (gate : Gate) → gate ≡ gateAt file shape i →
+    tokensOf (gateClauses nodeVariable (gate .kind) (pinsFrom file shape (gate .first) (gate .count))
+    (shape .inputs + i))
     ≡ gateRun file shape i
 unfolding cellAt cellOf pinsFrom
-gate-run file shape i gate k e =
-    ap (λ (x : Kind). tokensOf (gateClauses nodeVariable x (pinsFrom file shape (gate .first) (gate .count))
-    (shape .inputs + i))) (sym k)
-    ∙ ap (λ (g : Gate).
+gate-run file shape i gate e =
+    ap (λ (g : Gate).
     tokensOf (gateClauses nodeVariable (g .kind) (pinsFrom file shape (g .first) (g .count)) (shape .inputs + i))) e

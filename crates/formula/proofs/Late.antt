@@ -17,7 +17,17 @@ use Rattle.pairs.proofs.Closed.{place-below}
 use Rattle.formula.specs.Formula.{Part, sure, never, literal, isSure, literals, clauseOf, late}
 use Rattle.formula.specs.declared.Share.the-variants.{Control}
 use Rattle.formula.specs.Emission.{Token, ended, wants, tokensOf, codeRun, shareRun}
-use Rattle.formula.specs.Late.{Lent, partCode, partRun, variableIn, lateIn}
+use Rattle.formula.specs.Late.{
+  Lent,
+  partCode,
+  partRun,
+  topIn,
+  variableIn,
+  lateIn,
+  Slices,
+  PlaceFound,
+  LateCode,
+}
 
 pub positive : (t : ℕ) → (t ≡ 0 → ⊥) → 0 < t
 positive zero h = absurd (h refl)
@@ -40,13 +50,9 @@ pub pairs-listed : (table : List ℕ) (pairs : List (ℕ × ℕ)) → Lists tabl
 pairs-listed table pairs l = sym (even-part table) ∙ ap pairsIn (l .is) ∙ pairs-flat pairs
 
 -- what the search finds
-pub record PlaceFound (table : List ℕ) (node t r : ℕ) : Type 0 where
-  pub is : r ≡ pairPlace node t (pairsIn table)
-  pub below : r < length table / 2
-
-pub place-found : (table : List ℕ) (node t r : ℕ) → Findable table (length table / 2) node t →
+pub place-found : {table : List ℕ} {node t r : ℕ} → Findable table (length table / 2) node t →
     ((pairs : List (ℕ × ℕ)) → Lists table (length table / 2) pairs → r ≡ pairPlace node t pairs) → PlaceFound table node t r
-place-found table node t r f h =
+place-found {table} {node} {t} f h =
     let e = h (f .pairs) (f .lists) in
     let b = place-below node t (f .pairs) (f .here) in
     let l = f .lists .all in
@@ -57,32 +63,52 @@ place-found table node t r f h =
 
 -- ---- the cases
 
-module _ (l : Lent) (node t : ℕ) where
-  pub late-input : node < l .shape .inputs → t ≤ getD (l .tops) node 0 → lateIn l node t ≡ sure
+module _ {l : Lent} {node t : ℕ} where
+  pub late-input : node < l .shape .inputs → t ≤ topIn (l .tops) node → LateCode l node t 1
   unfolding late
-  late-input h k = rw (lt-ltb node (l .shape .inputs) h, le-leb t (getD (l .tops) node 0) k)
+  late-input h k =
+      record {
+        is = rw (lt-ltb node (l .shape .inputs) h, le-leb t (topIn (l .tops) node) k);
+        small = omega arith;
+      }
 
-  pub late-input-not : node < l .shape .inputs → getD (l .tops) node 0 < t → lateIn l node t ≡ never
+  pub late-input-not : node < l .shape .inputs → topIn (l .tops) node < t → LateCode l node t 0
   unfolding late
-  late-input-not h k = rw (lt-ltb node (l .shape .inputs) h, lt-leb t (getD (l .tops) node 0) k)
+  late-input-not h k =
+      record {
+        is = rw (lt-ltb node (l .shape .inputs) h, lt-leb t (topIn (l .tops) node) k);
+        small = omega arith;
+      }
 
-  pub late-zero : l .shape .inputs ≤ node → t ≡ 0 → lateIn l node t ≡ sure
+  pub late-zero : l .shape .inputs ≤ node → t ≡ 0 → LateCode l node t 1
   unfolding late
   late-zero h e =
       let k : t ≤ 0 = omega arith in
-      rw (le-ltb node (l .shape .inputs) h, le-leb t 0 k)
+      record { is = rw (le-ltb node (l .shape .inputs) h, le-leb t 0 k); small = omega arith }
 
-  pub late-beyond : l .shape .inputs ≤ node → 0 < t → getD (l .tops) node 0 < t → lateIn l node t ≡ never
+  pub late-beyond : l .shape .inputs ≤ node → 0 < t → topIn (l .tops) node < t → LateCode l node t 0
   unfolding late
   late-beyond h p k =
-      rw (le-ltb node (l .shape .inputs) h, lt-leb t 0 p, lt-leb t (getD (l .tops) node 0) k)
+      record {
+        is = rw (le-ltb node (l .shape .inputs) h, lt-leb t 0 p, lt-leb t (topIn (l .tops) node) k);
+        small = omega arith;
+      }
 
-  pub late-pair : l .shape .inputs ≤ node → 0 < t → t ≤ getD (l .tops) node 0 →
-      lateIn l node t ≡ literal true (variableIn l node t)
-  unfolding late
-  late-pair h p k =
-      rw (le-ltb node (l .shape .inputs) h, lt-leb t 0 p, le-leb t (getD (l .tops) node 0) k)
+  pub late-pair : {place : ℕ} → Slices l → l .shape .inputs ≤ node → 0 < t → t ≤ topIn (l .tops) node →
+      PlaceFound (l .table) node t place → LateCode l node t ((l .shape .inputs + l .shape .gates + place + 1) * 2)
+  unfolding late variableIn
+  late-pair {place} s h p k f =
+      let nodes = s .nodes-few in
+      let pairs = s .pairs-few in
+      let is = f .is in
+      let below = f .below in
+      record {
+        is =
+            rw (le-ltb node (l .shape .inputs) h, lt-leb t 0 p, le-leb t (topIn (l .tops) node) k) (omega arith);
+        small = omega arith;
+      }
 
+module _ (l : Lent) (node t : ℕ) where
   -- what holds of "true outright", "false outright" and each literal of a variable above 0 holds of "late at t"
   late-any : (P : Part ℕ → Type 0) → P sure → P never → ((n : ℕ) → P (literal true (suc n))) → P (lateIn l node t)
   unfolding late variableIn

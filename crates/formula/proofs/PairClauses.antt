@@ -1,5 +1,5 @@
--- A gate that is read, and one pair of the table after the other: what the code leans on there, and that what it puts for
--- the pair is what the definition says. Assumes nothing.
+-- A gate that is read, and one pair of the table after the other: what the code leans on there, and that what it puts
+-- for the pair is what the definition says. Assumes nothing.
 use mathlib.Core.Path.{_≡_, sym, ap, ap₂, _∙_, subst}
 use mathlib.Core.List.{List}
 use Prim.Native.Nat.{ℕ, suc, _+_, _-_, _*_, _/_, _≤_, _<_}
@@ -25,6 +25,7 @@ use Rattle.formula.specs.Late.{
   pairRun,
   Ready,
   Served,
+  Gated,
   Stands,
   AllStand,
 }
@@ -40,12 +41,6 @@ stands-here {file} {l} k pair a h e =
     let p : pairAt (pairsIn (l .table)) k ≡ (pair .node, pair .time) =
     pairs-at (l .table) k h ∙ ap₂ (λ (m n : ℕ). (m, n)) (sym (e .0)) (sym (e .1)) in
     record { stands = subst (λ (x : ℕ × ℕ). Stands file l k (x .0) (x .1)) p (a .stands k h); is = p }
-
--- what is known of the gate that is read
-pub record Gated (file : List ℕ) (l : Lent) (gate : Gate) (t : ℕ) : Type 0 where
-  pub drivers : Served file l Pins (gate .first) (gate .count) t
-  pub within : gate .first + gate .count ≤ 2048
-  pub few : gate .count ≤ 8
 
 -- a gate's own clauses ask at time 0, at which no pair is wanted
 pub gated-now : {file : List ℕ} {l : Lent} {starts : List ℕ} {number : ℕ} (gate : Gate) → Holds file (l .shape) →
@@ -64,13 +59,15 @@ gated-now {file} {l} {starts} {number} gate holds ready h e =
                       omega (
                         arith,
                         ready .slices .tops-all,
-                        holds .drivers-below number entry h (omega (arith, fields .0)) (omega (arith, fields .0, fields .1)),
+                        holds .drivers-below number entry h (omega (arith, fields .0))
+                            (omega (arith, fields .0, fields .1)),
                       );
                   listed = λ x y z. absurd (omega arith);
                 };
           };
       within = omega (arith, holds .counts .pins-few);
       few = takes-few (gate .kind) (gate .count) (gate-takes gate holds h e);
+      takes-all = gate-takes gate holds h e;
     }
 
 module _ {file : List ℕ} {l : Lent} {k node t : ℕ} (gate : Gate) (s : Stands file l k node t)
@@ -84,16 +81,16 @@ module _ {file : List ℕ} {l : Lent} {k node t : ℕ} (gate : Gate) (s : Stands
         drivers = subst (λ (g : Gate). Served file l Pins (g .first) (g .count) t) (sym e) (s .drivers);
         within = omega (arith, holds .counts .pins-few);
         few = takes-few (gate .kind) (gate .count) (gate-takes gate holds here e);
+        takes-all = gate-takes gate holds here e;
       }
 
   -- and what is put for it is the pair's run
-  pub pair-here : (pairAt (pairsIn (l .table)) k ≡ (node, t)) →
-      clausesIn l (nodesIn l + k + 1) (gate .kind) (pinsFrom file (l .shape) (gate .first) (gate .count)) t
-      ≡ pairRun file l k
+  pub pair-here : {variable : ℕ} → pairAt (pairsIn (l .table)) k ≡ (node, t) → variable ≡ nodesIn l + k + 1 →
+      clausesIn l variable (gate .kind) (pinsFrom file (l .shape) (gate .first) (gate .count)) t ≡ pairRun file l k
   unfolding cellAt cellOf pinsFrom variableIn
-  pair-here p =
+  pair-here {variable} p n =
       let o = s .own in
-      let v : nodesIn l + k + 1 ≡ suc (nodesIn l + pairPlace node t (pairsIn (l .table))) = omega arith in
+      let v : variable ≡ suc (nodesIn l + pairPlace node t (pairsIn (l .table))) = omega arith in
       ap₂ (λ (n : ℕ) (g : Gate).
       clausesIn l n (g .kind) (pinsFrom file (l .shape) (g .first) (g .count)) t) v e
       ∙ sym (ap (runOf file l) p)

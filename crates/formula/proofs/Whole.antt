@@ -184,7 +184,8 @@ module _ (file : List ℕ) (shape : Shape) (target : ℕ) where
 
   -- the gates' clauses, gate by gate
   gates-put : concatMap (gateRun file shape) (upFrom 0 (shape .gates))
-      ≡ tokensOf (concatMap (λ x. gateClauses nodeVariable (x .1 .kind) (x .1 .pins) (x .0)) (nodes (netlistAt file shape)))
+      ≡ tokensOf (concatMap (λ x. gateClauses nodeVariable (x .1 .kind) (x .1 .pins) (x .0))
+      (nodes (netlistAt file shape)))
   unfolding netlistAt
   gates-put =
       let e : shape .inputs + 0 ≡ shape .inputs = omega arith in

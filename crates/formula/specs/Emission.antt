@@ -71,8 +71,8 @@ lastPlace = 4000000000
 abbrev pub shareMost : ℕ
 shareMost = 4
 
--- a gate takes at most 8 pins; it puts two runs over them and a clause's first literal and end, or four clauses of three
--- literals; and so does a pair
+-- a gate takes at most 8 pins; it puts two runs over them and a clause's first literal and end, or four clauses of
+-- three literals; and so does a pair
 abbrev pub gateMost : ℕ
 gateMost = 8 * shareMost + 8 * shareMost + 2
 
@@ -111,6 +111,11 @@ shareRun Late own node late = codeRun late
 shareRun (Control c) own node late =
     cond (eqb late 1) [] (((wants (false, own) ∷ []) ++ codeRun late) ++ (wants (nodeIs node (not c)) ∷ ended ∷ []))
 
+-- what so many drivers add, by what was stored of them
+abbrev pub sharesRun : Share → ℕ → List ℕ → List ℕ → ℕ → List Token
+sharesRun share own nodes lates count =
+    concatMap (λ i. shareRun share own (getD nodes i 0) (getD lates i 0)) (upFrom 0 count)
+
 -- the clause "head, or something late", by the codes, and whether something is late outright
 abbrev pub lateRun : ℕ → ℕ → List ℕ → Bool → List Token
 lateRun head count lates some =
@@ -118,13 +123,19 @@ lateRun head count lates some =
 
 -- ---- what is put for one gate
 
+-- "for each pin, driver is not c, gate is k; then driver is c for every pin and gate is not k"
+abbrev pub simpleRun : Bool → Bool → ℕ → List ℕ → List ℕ → ℕ → List Token
+simpleRun c k node nodes lates count =
+    ((sharesRun (Forced c k) (node + 1) nodes lates count ++ sharesRun (Driver c) (node + 1) nodes lates count)
+    ++ (wants (nodeIs node (not k)) ∷ [])) ++ (ended ∷ [])
+
 -- a clause of three literals
 abbrev pub three : Literal → Literal → Literal → List Token
 three x y z = wants x ∷ wants y ∷ wants z ∷ ended ∷ []
 
 -- "(s, a is d, f is e), (s, a is not d, f is not e), (-s, b is d, f is g), (-s, b is not d, f is not g)"
-abbrev pub chosenRun : ℕ → ℕ → ℕ → Bool → Bool → Bool → ℕ → List Token
-chosenRun s a b d e g f =
+abbrev pub choiceRun : ℕ → ℕ → ℕ → Bool → Bool → Bool → ℕ → List Token
+choiceRun s a b d e g f =
     three (nodeIs s true) (nodeIs a d) (nodeIs f e)
     ++ (three (nodeIs s true) (nodeIs a (not d)) (nodeIs f (not e))
     ++ (three (nodeIs s false) (nodeIs b d) (nodeIs f g)

@@ -1,15 +1,17 @@
--- What serves the code that writes the pairs' clauses: "late at t" by what is lent to it, as one code, and what the code
--- leans on.
+-- What serves the code that writes the pairs' clauses: "late at t" by what is lent to it, as one code, and what the
+-- code leans on.
 use mathlib.Core.Path.{_≡_}
 use mathlib.Core.Bool.{Bool, false, not}
 use mathlib.Core.List.{List, [], _∷_, _++_, map}
 use Prim.Native.Nat.{ℕ, suc, _+_, _-_, _*_, _/_, _≤_, _<_}
+use lib.Dec.{T}
 use lib.ListN.{length, getD, take}
 use Rattle.basics.specs.Lists.{any, concatMap, upFrom}
 use Rattle.netlist.specs.declared.Kind.{Kind}
 use Rattle.netlist.specs.declared.Kind.the-variants.{Simple, Parity, Mux}
 use Rattle.netlist.specs.declared.Shape.{Shape}
-use Rattle.netlist.specs.Netlist.{Cell, Pin}
+use Rattle.netlist.specs.declared.Gate.{Gate}
+use Rattle.netlist.specs.Netlist.{Pin, takes}
 use Rattle.netlist.specs.File.{firstAt, countAt, driverAt, delayAt, outputAt, cellAt, netlistAt}
 use Rattle.clauses.specs.Codes.{literalCode}
 use Rattle.pairs.specs.Pairs.{pairPlace}
@@ -17,9 +19,8 @@ use Rattle.pairs.specs.Table.{pairsIn, pairAt, Sorted}
 use Rattle.pairs.specs.Promise.{Findable, Begins}
 use Rattle.formula.specs.declared.Side.{Side}
 use Rattle.formula.specs.declared.Side.the-variants.{Pins, Outputs}
-use Rattle.formula.specs.declared.Asked.{Asked}
 use Rattle.formula.specs.Formula.{Part, sure, never, literal, isSure, clauseOf, late, nodeVariable}
-use Rattle.formula.specs.Emission.{Token, wants, tokensOf, cellRun}
+use Rattle.formula.specs.Emission.{Token, wants, tokensOf, cellRun, codeBound}
 
 -- ---- a part as one code
 
@@ -85,11 +86,6 @@ timeAt file shape Outputs t position = t
 -- that a pin's driver is late at t less the pin's delay, "output late at t"
 abbrev pub lateAt : List ℕ → Lent → Side → ℕ → ℕ → Part ℕ
 lateAt file l side t entry = lateIn l (nodeAt file (l .shape) side entry) (timeAt file (l .shape) side t entry)
-
--- both in one
-abbrev pub askedAt : List ℕ → Lent → Side → ℕ → ℕ → Asked
-askedAt file l side t entry =
-    record { node = nodeAt file (l .shape) side entry; late = partCode (lateAt file l side t entry) }
 
 -- ---- what is put
 
@@ -162,6 +158,13 @@ pub record Served (file : List ℕ) (l : Lent) (side : Side) (first count t : �
   pub asks : (entry : ℕ) → first ≤ entry → entry < first + count →
       Asking l (nodeAt file (l .shape) side entry) (timeAt file (l .shape) side t entry)
 
+-- a gate, and what its drivers are asked for at t
+pub record Gated (file : List ℕ) (l : Lent) (gate : Gate) (t : ℕ) : Type 0 where
+  pub drivers : Served file l Pins (gate .first) (gate .count) t
+  pub within : gate .first + gate .count ≤ 2048
+  pub few : gate .count ≤ 8
+  pub takes-all : T (takes (gate .kind) (gate .count))
+
 -- a pair of the table: a gate's node, at its own place k, and its drivers
 pub record Stands (file : List ℕ) (l : Lent) (k node t : ℕ) : Type 0 where
   pub low : l .shape .inputs ≤ node
@@ -174,6 +177,18 @@ pub record Stands (file : List ℕ) (l : Lent) (k node t : ℕ) : Type 0 where
 pub record AllStand (file : List ℕ) (l : Lent) : Type 0 where
   pub stands : (k : ℕ) → k < pairsCount l →
       Stands file l k (pairAt (pairsIn (l .table)) k .0) (pairAt (pairsIn (l .table)) k .1)
+
+-- ---- what the code finds
+
+-- a pair's place
+pub record PlaceFound (table : List ℕ) (node t place : ℕ) : Type 0 where
+  pub is : place ≡ pairPlace node t (pairsIn table)
+  pub below : place < length table / 2
+
+-- "node late at t" as a code
+pub record LateCode (l : Lent) (node t code : ℕ) : Type 0 where
+  pub is : code ≡ partCode (lateIn l node t)
+  pub small : code < codeBound
 
 -- the entries were read: their nodes, the codes of "late", and whether some is late outright
 pub record Reads (file : List ℕ) (l : Lent) (side : Side) (first count t : ℕ) (nodes lates : List ℕ) (some : Bool) :

@@ -8,14 +8,14 @@ use refusal::Refusal;
 ghost use mathlib.Core.Path.{_≡_};
 ghost use mathlib.Core.List.{[], _∷_};
 ghost use Prim.Native.Nat.{_+_, _-_, _*_, _/_, _≤_, _<_};
-ghost use lib.ListN.{length, getD};
+ghost use lib.ListN.{length, getD, set, take};
 ghost use Rattle.basics.specs.Lists.{concatMap, upFrom};
 ghost use Rattle.netlist.specs.File.{netlistAt, pinsFrom, circuitAt};
 ghost use Rattle.netlist.specs.Holds.{Holds, Tables};
-ghost use Rattle.netlist.specs.declared.Kind.the-variants.{Simple};
-ghost use Rattle.pairs.specs.Promise.{Tops, pairsAt, Held};
+ghost use Rattle.pairs.specs.Promise.{Tops, pairsAt, Held, Findable, Bounds};
+ghost use Rattle.pairs.specs.Table.{pairsIn};
 ghost use Rattle.pairs.specs.declared.Listed.the-variants.{Count};
-ghost use Rattle.formula.specs.declared.Side.the-variants.{Pins, Outputs};
+ghost use Rattle.formula.specs.declared.Side.the-variants.{Outputs};
 ghost use Rattle.formula.specs.Formula.{nodeVariable, gateClauses};
 ghost use Rattle.formula.specs.Promise.{Meets, buildingOf, building};
 ghost use Rattle.formula.specs.Emission.{
@@ -29,9 +29,11 @@ ghost use Rattle.formula.specs.Emission.{
   codeRun,
   nodeIs,
   shareRun,
+  sharesRun,
+  simpleRun,
   lateRun,
   three,
-  chosenRun,
+  choiceRun,
   variableBound,
   codeBound,
   shareMost,
@@ -42,9 +44,10 @@ ghost use Rattle.formula.specs.Emission.{
 };
 ghost use Rattle.formula.specs.Late.{
   lent,
-  partCode,
-  lateIn,
-  askedAt,
+  entries,
+  topIn,
+  nodeAt,
+  timeAt,
   clausesIn,
   gateRun,
   pairRun,
@@ -54,7 +57,10 @@ ghost use Rattle.formula.specs.Late.{
   Ready,
   Asking,
   Served,
+  Gated,
   AllStand,
+  PlaceFound,
+  LateCode,
   Reads,
 };
 
@@ -85,20 +91,20 @@ pub struct Moment {
     pub time: usize,
 }
 
-// Who asks whether a node is late: the pins of gates, each for its driver at a time less its delay; or the outputs.
-pub enum Side {
-    Pins,
-    Outputs,
-}
-
 // What is known of a node that is asked for: its number, and "node late" as a code.
 pub struct Asked {
     pub node: usize,
     pub late: usize,
 }
 
-// What each driver of a gate adds, beside a variable of the gate's or the pair's own: the clause "driver is not c, own is
-// k"; the literal "driver is c"; the part "driver late"; the clause "-own, driver late, driver is not c".
+// Who asks whether a node is late: the pins of gates, each for its driver at a time less its delay; or the outputs.
+pub enum Side {
+    Pins,
+    Outputs,
+}
+
+// What each driver of a gate adds, beside a variable of the gate's or the pair's own: the clause "driver is not c, own
+// is k"; the literal "driver is c"; the part "driver late"; the clause "-own, driver late, driver is not c".
 pub enum Share {
     Forced { c: bool, k: bool },
     Driver(bool),
@@ -131,6 +137,14 @@ fn put_literal(formula: &mut [i32], at: Emitted, variable: usize, wanted: bool) 
     put_code(formula, at, variable * 2 + 1)
 }
 
+// One literal more: "node is wanted".
+fn put_node(formula: &mut [i32], at: Emitted, node: usize, wanted: bool) -> Emitted
+    requires { ⌜ Fits 1 at × (node < 65536) ⌝ }
+    ensures { λ r. ⌜ Emits 1 (wants (nodeIs node wanted) ∷ []) (now (formula .entry)) at (now (formula .exit)) r ⌝ }
+{
+    put_literal(formula, at, node + 1, wanted)
+}
+
 // A part of a clause; a false part is left out.
 fn put_part(formula: &mut [i32], at: Emitted, code: usize) -> Emitted
     requires { ⌜ Fits 1 at × (code < codeBound) ⌝ }
@@ -154,13 +168,35 @@ fn put_end(formula: &mut [i32], at: Emitted) -> Emitted
     }
 }
 
-// ---- what a driver adds
+// ---- what is known of drivers and outputs
 
 // A number of 16 bits as a number.
 fn widen(x: u16) -> usize
     ensures { λ r. ⌜ (r ≡ x) × (r < 65536) ⌝ }
 {
     x as usize
+}
+
+// A node that was stored.
+fn node_at(nodes: &[u16], i: usize) -> usize
+    requires { ⌜ i < length (now nodes) ⌝ }
+    ensures { λ r. ⌜ (r ≡ getD (now (nodes .entry)) i 0) × (r < 65536) ⌝ }
+{
+    widen(nodes[i])
+}
+
+// What was stored of entry i.
+fn asked_at(nodes: &[u16], lates: &[u32], i: usize) -> Asked
+    requires { ⌜ (i < length (now nodes)) × (i < length (now lates)) ⌝ }
+    ensures { λ r. ⌜
+        (r .node ≡ getD (now (nodes .entry)) i 0) × (r .late ≡ getD (now (lates .entry)) i 0) × (r .node < 65536)
+        × (r .late < codeBound)
+        ⌝ }
+{
+    Asked {
+        node: node_at(nodes, i),
+        late: lent::widen(lates[i]),
+    }
 }
 
 // What one driver adds. A control clause is left out where its driver is late outright.
@@ -179,12 +215,12 @@ fn put_share(
 {
     match share {
         Share::Forced { c, k } => {
-            let driver = put_literal(formula, at, node + 1, !c);
+            let driver = put_node(formula, at, node, !c);
             let gate = put_literal(formula, driver, own, k);
             return put_end(formula, gate);
         }
         Share::Driver(c) => {
-            return put_literal(formula, at, node + 1, c);
+            return put_node(formula, at, node, c);
         }
         Share::Late => {
             return put_part(formula, at, late);
@@ -195,7 +231,7 @@ fn put_share(
             }
             let negated = put_literal(formula, at, own, false);
             let part = put_part(formula, negated, late);
-            let driver = put_literal(formula, part, node + 1, !c);
+            let driver = put_node(formula, part, node, !c);
             return put_end(formula, driver);
         }
     }
@@ -216,16 +252,15 @@ fn put_shares(
         × Fits (count * shareMost) at
         ⌝ }
     ensures { λ r. ⌜
-        Emits (count * shareMost) (concatMap (λ i. shareRun share own (getD (now (nodes .entry)) i 0)
-        (getD (now (lates .entry)) i 0)) (upFrom 0 count)) (now (formula .entry)) at (now (formula .exit)) r
+        Emits (count * shareMost) (sharesRun share own (now (nodes .entry)) (now (lates .entry)) count)
+        (now (formula .entry)) at (now (formula .exit)) r
         ⌝ }
 {
     let mut to = at;
     let mut i = 0;
     while i < count {
-        let node = widen(nodes[i]);
-        let late = lent::widen(lates[i]);
-        to = put_share(share, own, node, late, formula, to);
+        let driver = asked_at(nodes, lates, i);
+        to = put_share(share, own, driver.node, driver.late, formula, to);
         i += 1;
     }
     to
@@ -243,6 +278,25 @@ fn less(t: usize, delay: usize) -> usize
     0
 }
 
+// A node's top.
+fn top_at(tops: &[u32], node: usize) -> usize
+    requires { ⌜ node < length (now tops) ⌝ }
+    ensures { λ r. ⌜ r ≡ topIn (now (tops .entry)) node ⌝ }
+{
+    lent::widen(tops[node])
+}
+
+// A pair's place in the table.
+fn place_of(table: &[u32], starts: &[usize], node: usize, t: usize) -> usize
+    requires { ⌜
+        Findable (now table) (length (now table) / 2) node t
+        × Bounds (pairsIn (take (length (now table) / 2 * 2) (now table))) (now starts) node
+        ⌝ }
+    ensures { λ r. ⌜ PlaceFound (now (table .entry)) node t r ⌝ }
+{
+    pairs::place(table, table.len() / 2, starts, node, t)
+}
+
 // That a node is late at t, as a code: 1 if true outright, 0 if false outright, else the code of its pair's literal.
 fn late_code(
     shape: Shape,
@@ -255,11 +309,9 @@ fn late_code(
     requires { ⌜
         Ready (lent shape (now tops) (now table)) (now starts) × Asking (lent shape (now tops) (now table)) node t
         ⌝ }
-    ensures { λ r. ⌜
-        (r ≡ partCode (lateIn (lent shape (now (tops .entry)) (now (table .entry))) node t)) × (r < codeBound)
-        ⌝ }
+    ensures { λ r. ⌜ LateCode (lent shape (now (tops .entry)) (now (table .entry))) node t r ⌝ }
 {
-    let top = lent::widen(tops[node]);
+    let top = top_at(tops, node);
     if node < shape.inputs {
         if t <= top {
             return 1;
@@ -272,47 +324,47 @@ fn late_code(
     if top < t {
         return 0;
     }
-    let place = pairs::place(table, table.len() / 2, starts, node, t);
-    (shape.inputs + shape.gates + place + 1) * 2
+    (shape.inputs + shape.gates + place_of(table, starts, node, t) + 1) * 2
 }
 
 // What an entry asks for: a pin its driver, at t less its delay; an output itself, at t.
-fn ask(
-    file: &[u8],
-    shape: Shape,
-    tops: &[u32],
-    table: &[u32],
-    starts: &[usize],
-    side: Side,
-    entry: usize,
-    t: usize,
-) -> Asked
-    requires { ⌜
-        Tables (now file) shape × Ready (lent shape (now tops) (now table)) (now starts)
-        × Served (now file) (lent shape (now tops) (now table)) side entry 1 t
-        ⌝ }
+fn moment_at(file: &[u8], shape: Shape, side: Side, entry: usize, t: usize) -> Moment
+    requires { ⌜ Tables (now file) shape × (entry < entries shape side) ⌝ }
     ensures { λ r. ⌜
-        (r ≡ askedAt (now (file .entry)) (lent shape (now (tops .entry)) (now (table .entry))) side t entry)
-        × (r .node < 65536) × (r .late < codeBound)
+        (r .node ≡ nodeAt (now (file .entry)) shape side entry)
+        × (r .time ≡ timeAt (now (file .entry)) shape side t entry) × (r .node < 65536)
         ⌝ }
 {
     match side {
         Side::Pins => {
             let driver = netlist::driver_at(file, shape, entry);
             let delay = netlist::delay_at(file, shape, entry);
-            return Asked {
+            return Moment {
                 node: driver,
-                late: late_code(shape, tops, table, starts, driver, less(t, delay)),
+                time: less(t, delay),
             };
         }
         Side::Outputs => {
             let output = netlist::output_at(file, shape, entry);
-            return Asked {
+            return Moment {
                 node: output,
-                late: late_code(shape, tops, table, starts, output, t),
+                time: t,
             };
         }
     }
+}
+
+// What is known of entry i is stored.
+fn store(nodes: &mut [u16], lates: &mut [u32], i: usize, node: usize, late: usize)
+    requires { ⌜
+        (i < length (now nodes)) × (i < length (now lates)) × (node < 65536) × (late < codeBound)
+        ⌝ }
+    ensures { λ _. ⌜
+        (now (nodes .exit) ≡ set (now (nodes .entry)) i node) × (now (lates .exit) ≡ set (now (lates .entry)) i late)
+        ⌝ }
+{
+    nodes[i] = node as u16;
+    lates[i] = late as u32;
 }
 
 // What each of `count` entries asks for, from number `first` on, and whether some of it is late outright.
@@ -342,17 +394,17 @@ fn read_asked(
     let mut sure = false;
     let mut i = 0;
     while i < count {
-        let asked = ask(file, shape, tops, table, starts, side, first + i, t);
-        nodes[i] = asked.node as u16;
-        lates[i] = asked.late as u32;
-        sure = sure | (asked.late == 1);
+        let asked = moment_at(file, shape, side, first + i, t);
+        let late = late_code(shape, tops, table, starts, asked.node, asked.time);
+        store(nodes, lates, i, asked.node, late);
+        sure = sure | (late == 1);
         i += 1;
     }
     sure
 }
 
-// "Head, or something late", of what was read, where `head` is a literal's code or 0 for none; left out where something is
-// late outright.
+// "Head, or something late", of what was read, where `head` is a literal's code or 0 for none; left out where something
+// is late outright.
 fn late_clause(
     head: usize,
     nodes: &[u16],
@@ -381,35 +433,36 @@ fn late_clause(
 
 // ---- 1. each gate
 
-// A clause of three nodes: "first is a, second is b, third is c".
-fn clause_of_nodes(
-    first: usize,
+// A clause of a gate f, one of whose pins chooses and another is chosen: "pin x is a, pin y is b, f is c".
+fn choice_clause(
+    nodes: &[u16],
+    x: usize,
     a: bool,
-    second: usize,
+    y: usize,
     b: bool,
-    third: usize,
+    f: usize,
     c: bool,
     formula: &mut [i32],
     at: Emitted,
 ) -> Emitted
-    requires { ⌜ (first < 65536) × (second < 65536) × (third < 65536) × Fits 4 at ⌝ }
+    requires { ⌜ (x < length (now nodes)) × (y < length (now nodes)) × (f < 65536) × Fits 4 at ⌝ }
     ensures { λ r. ⌜
-        Emits 4 (three (nodeIs first a) (nodeIs second b) (nodeIs third c)) (now (formula .entry)) at
-        (now (formula .exit)) r
+        Emits 4 (three (nodeIs (getD (now (nodes .entry)) x 0) a) (nodeIs (getD (now (nodes .entry)) y 0) b)
+        (nodeIs f c)) (now (formula .entry)) at (now (formula .exit)) r
         ⌝ }
 {
-    let one = put_literal(formula, at, first + 1, a);
-    let two = put_literal(formula, one, second + 1, b);
-    let three = put_literal(formula, two, third + 1, c);
+    let one = put_node(formula, at, node_at(nodes, x), a);
+    let two = put_node(formula, one, node_at(nodes, y), b);
+    let three = put_node(formula, two, f, c);
     put_end(formula, three)
 }
 
-// A gate f for which a pin s chooses: "(s, a is d, f is e), (s, a is not d, f is not e), (-s, b is d, f is g), (-s, b is
-// not d, f is not g)". A multiplexer chooses between two pins, a parity gate between a pin and its opposite.
-fn chosen_clauses(
-    s: usize,
-    a: usize,
-    b: usize,
+// A gate f whose first pin s chooses between a, its second, and b, its last: "(s, a is d, f is e), (s, a is not d, f is
+// not e), (-s, b is d, f is g), (-s, b is not d, f is not g)". A multiplexer chooses between two pins, a parity gate
+// between a pin and its opposite.
+fn choice_clauses(
+    nodes: &[u16],
+    last: usize,
     d: bool,
     e: bool,
     g: bool,
@@ -417,24 +470,22 @@ fn chosen_clauses(
     formula: &mut [i32],
     at: Emitted,
 ) -> Emitted
-    requires { ⌜ (s < 65536) × (a < 65536) × (b < 65536) × (f < 65536) × Fits 16 at ⌝ }
-    ensures { λ r. ⌜ Emits 16 (chosenRun s a b d e g f) (now (formula .entry)) at (now (formula .exit)) r ⌝ }
+    requires { ⌜ (1 < length (now nodes)) × (last < length (now nodes)) × (f < 65536) × Fits 16 at ⌝ }
+    ensures { λ r. ⌜
+        Emits 16 (choiceRun (getD (now (nodes .entry)) 0 0) (getD (now (nodes .entry)) 1 0)
+        (getD (now (nodes .entry)) last 0) d e g f) (now (formula .entry)) at (now (formula .exit)) r
+        ⌝ }
 {
-    let one = clause_of_nodes(s, true, a, d, f, e, formula, at);
-    let two = clause_of_nodes(s, true, a, !d, f, !e, formula, one);
-    let three = clause_of_nodes(s, false, b, d, f, g, formula, two);
-    clause_of_nodes(s, false, b, !d, f, !g, formula, three)
+    let one = choice_clause(nodes, 0, true, 1, d, f, e, formula, at);
+    let two = choice_clause(nodes, 0, true, 1, !d, f, !e, formula, one);
+    let three = choice_clause(nodes, 0, false, last, d, f, g, formula, two);
+    choice_clause(nodes, 0, false, last, !d, f, !g, formula, three)
 }
 
-// A simple gate: a clause of two literals for each pin, then one over all pins (rule F9). No time is asked for: the
-// drivers are read at 0.
+// A simple gate: a clause of two literals for each pin, then one over all pins (rule F9).
 fn simple_clauses(
-    file: &[u8],
-    shape: Shape,
-    tops: &[u32],
-    table: &[u32],
-    starts: &[usize],
-    first: usize,
+    nodes: &[u16],
+    lates: &[u32],
     count: usize,
     c: bool,
     k: bool,
@@ -443,18 +494,57 @@ fn simple_clauses(
     at: Emitted,
 ) -> Emitted
     requires { ⌜
-        Tables (now file) shape × Ready (lent shape (now tops) (now table)) (now starts)
-        × Served (now file) (lent shape (now tops) (now table)) Pins first count 0
-        × (first + count ≤ 2048) × (count ≤ 8) × (node < 65536) × Fits gateMost at
+        (count ≤ length (now nodes)) × (count ≤ length (now lates)) × (count ≤ 8) × (node < 65536)
+        × Fits gateMost at
         ⌝ }
     ensures { λ r. ⌜
-        Emits gateMost (tokensOf (gateClauses nodeVariable (Simple c k) (pinsFrom (now (file .entry)) shape first count)
-        node)) (now (formula .entry)) at (now (formula .exit)) r
+        Emits gateMost (simpleRun c k node (now (nodes .entry)) (now (lates .entry)) count) (now (formula .entry)) at
+        (now (formula .exit)) r
+        ⌝ }
+{
+    let own = node + 1;
+    let forced = put_shares(
+        nodes,
+        lates,
+        count,
+        Share::Forced { c: c, k: k },
+        own,
+        formula,
+        at,
+    );
+    let drivers = put_shares(nodes, lates, count, Share::Driver(c), own, formula, forced);
+    let gate = put_node(formula, drivers, node, !k);
+    put_end(formula, gate)
+}
+
+// The clauses of one gate, by its kind. No time is asked for: its drivers are read at 0.
+fn gate_clauses(
+    file: &[u8],
+    shape: Shape,
+    tops: &[u32],
+    table: &[u32],
+    starts: &[usize],
+    gate: Gate,
+    node: usize,
+    formula: &mut [i32],
+    at: Emitted,
+) -> Emitted
+    requires { ⌜
+        Tables (now file) shape × Ready (lent shape (now tops) (now table)) (now starts)
+        × Gated (now file) (lent shape (now tops) (now table)) gate 0 × (node < 65536) × Fits gateMost at
+        ⌝ }
+    ensures { λ r. ⌜
+        Emits gateMost (tokensOf (gateClauses nodeVariable (gate .kind)
+        (pinsFrom (now (file .entry)) shape (gate .first) (gate .count)) node)) (now (formula .entry)) at
+        (now (formula .exit)) r
         ⌝ }
 {
     let mut nodes = [0u16; 8];
     let mut lates = [0u32; 8];
-    let sure = read_asked(
+    let first = gate.first;
+    let count = gate.count;
+    let kind = gate.kind;
+    read_asked(
         file,
         shape,
         tops,
@@ -467,80 +557,15 @@ fn simple_clauses(
         &mut nodes,
         &mut lates,
     );
-    let own = node + 1;
-    let forced = put_shares(
-        &nodes,
-        &lates,
-        count,
-        Share::Forced { c: c, k: k },
-        own,
-        formula,
-        at,
-    );
-    let drivers = put_shares(
-        &nodes,
-        &lates,
-        count,
-        Share::Driver(c),
-        own,
-        formula,
-        forced,
-    );
-    let gate = put_literal(formula, drivers, own, !k);
-    put_end(formula, gate)
-}
-
-// The clauses of one gate, by its kind.
-fn gate_clauses(
-    file: &[u8],
-    shape: Shape,
-    tops: &[u32],
-    table: &[u32],
-    starts: &[usize],
-    number: usize,
-    formula: &mut [i32],
-    at: Emitted,
-) -> Emitted
-    requires { ⌜
-        Holds (now file) shape × Ready (lent shape (now tops) (now table)) (now starts) × (number < shape .gates)
-        × Fits gateMost at
-        ⌝ }
-    ensures { λ r. ⌜
-        Emits gateMost (gateRun (now (file .entry)) shape number) (now (formula .entry)) at (now (formula .exit)) r
-        ⌝ }
-{
-    let gate = netlist::gate_at(file, shape, number);
-    let node = shape.inputs + number;
-    let first = gate.first;
-    let count = gate.count;
-    let kind = gate.kind;
     match kind {
         Kind::Simple { c, k } => {
-            return simple_clauses(
-                file,
-                shape,
-                tops,
-                table,
-                starts,
-                first,
-                count,
-                c,
-                k,
-                node,
-                formula,
-                at,
-            );
+            return simple_clauses(&nodes, &lates, count, c, k, node, formula, at);
         }
         Kind::Parity(equal) => {
-            let p = netlist::driver_at(file, shape, first);
-            let q = netlist::driver_at(file, shape, first + 1);
-            return chosen_clauses(p, q, q, true, equal, !equal, node, formula, at);
+            return choice_clauses(&nodes, 1, true, equal, !equal, node, formula, at);
         }
         Kind::Mux => {
-            let s = netlist::driver_at(file, shape, first);
-            let a = netlist::driver_at(file, shape, first + 1);
-            let b = netlist::driver_at(file, shape, first + 2);
-            return chosen_clauses(s, a, b, false, true, true, node, formula, at);
+            return choice_clauses(&nodes, 2, false, true, true, node, formula, at);
         }
     }
 }
@@ -566,7 +591,18 @@ fn all_gates(
     let mut to = at;
     let mut i = 0;
     while i < shape.gates {
-        to = gate_clauses(file, shape, tops, table, starts, i, formula, to);
+        let gate = netlist::gate_at(file, shape, i);
+        to = gate_clauses(
+            file,
+            shape,
+            tops,
+            table,
+            starts,
+            gate,
+            shape.inputs + i,
+            formula,
+            to,
+        );
         i += 1;
     }
     to
@@ -589,8 +625,7 @@ fn pair_clauses(
 ) -> Emitted
     requires { ⌜
         Tables (now file) shape × Ready (lent shape (now tops) (now table)) (now starts)
-        × Served (now file) (lent shape (now tops) (now table)) Pins (gate .first) (gate .count) t
-        × (gate .first + gate .count ≤ 2048) × (gate .count ≤ 8) × (0 < pair) × (pair < variableBound)
+        × Gated (now file) (lent shape (now tops) (now table)) gate t × (0 < pair) × (pair < variableBound)
         × Fits gateMost at
         ⌝ }
     ensures { λ r. ⌜
@@ -654,6 +689,14 @@ fn pair_at(table: &[u32], k: usize) -> Moment
     }
 }
 
+// "Pairs take N+1, N+2 and on": the variable of pair k.
+fn pair_variable(shape: Shape, k: usize) -> usize
+    requires { ⌜ (shape .inputs + shape .gates ≤ 512) × (k < 65536) ⌝ }
+    ensures { λ r. ⌜ r ≡ shape .inputs + shape .gates + k + 1 ⌝ }
+{
+    shape.inputs + shape.gates + k + 1
+}
+
 // Each pair, rising variable.
 fn all_pairs(
     file: &[u8],
@@ -673,7 +716,6 @@ fn all_pairs(
         (upFrom 0 (length (now (table .entry)) / 2))) (now (formula .entry)) at (now (formula .exit)) r
         ⌝ }
 {
-    let nodes = shape.inputs + shape.gates;
     let mut to = at;
     let mut k = 0;
     while k < table.len() / 2 {
@@ -686,7 +728,7 @@ fn all_pairs(
             table,
             starts,
             gate,
-            nodes + k + 1,
+            pair_variable(shape, k),
             pair.time,
             formula,
             to,

@@ -4,32 +4,46 @@ use native.Mathlib.Omega.{arith}
 use borrow.Author.Needs.{needs}
 use Rattle.formula.specs.Emission.{gateMost, gatesMost}
 use Rattle.formula.specs.Late.{gateRun}
-use Rattle.formula.proofs.Emission.{Emitting}
+use Rattle.formula.proofs.Gates.{gate-run}
+use Rattle.formula.proofs.PairClauses.{gated-now}
 use Rattle.formula.proofs.Emission as E
 use Rattle.formula.proofs.all_gates.Statement.{statement}
 use Rattle.formula.proofs.all_gates.Tie as tie
 
 abbrev Inv-loop : tie.InvT-loop
 Inv-loop file shape tops table starts formula₀ to₀ i₀ formula to i =
-    (i ≤ shape .gates) × Emitting gateMost (gateRun file shape) i formula₀ to₀ formula to
+    (i ≤ shape .gates) × E.Emitting gateMost (gateRun file shape) i formula₀ to₀ formula to
 
 abbrev μ-loop : tie.MeasureT-loop
 μ-loop file shape tops table starts formula₀ to₀ i₀ formula to i = shape .gates - i
 
+-- the places on the way
 abbrev start : tie.At-loop Inv-loop μ-loop → tie.Start Inv-loop μ-loop
 start c = c .before .before .before .before .before
+
+abbrev looped : tie.After-gate-at Inv-loop μ-loop → tie.At-loop Inv-loop μ-loop
+looped c = c .before .before .before
 
 loop-holds : tie.Need-loop-holds Inv-loop μ-loop
 loop-holds c = (omega arith, E.emitting-starts _ _ _ _ (c .before .before .before .before .pre .2 .fewer))
 
+gate-at-requires : tie.Need-gate-at-requires Inv-loop μ-loop
+gate-at-requires c κs = (start (c .before .before) .pre .0 .tables, c .if1 .taken)
+
+add-gate-clauses : tie.Need-add-gate-clauses Inv-loop μ-loop
+add-gate-clauses c = search needs
+
 gate-clauses-requires : tie.Need-gate-clauses-requires Inv-loop μ-loop
 gate-clauses-requires c κs =
-    let loop = c .before .before .before .loop in
-    let pre = start (c .before .before .before) .pre in (
-      pre .0,
+    let gate = c .before .before in
+    let test = gate .before .if1 .taken in
+    let pre = start (looped gate) .pre in
+    let holds = pre .0 in (
+      holds .tables,
       pre .1,
-      c .before .if1 .taken,
-      record { place = omega (arith, loop .inv .1 .emits .few, pre .0 .counts .gates-few, pre .2 .place); fewer = loop .inv .1 .emits .fewer },
+      gated-now (gate .gate-at .result) holds (pre .1) test (gate .gate-at .ensures .0),
+      omega (arith, holds .counts .inputs-few, holds .counts .gates-few),
+      E.emitting-fits 448 (pre .2) (looped gate .loop .inv .1) (omega (arith, holds .counts .gates-few)),
     )
 
 add-i : tie.Need-add-i Inv-loop μ-loop
@@ -40,8 +54,15 @@ loop-less c = search needs
 
 loop-again : tie.Need-loop-again Inv-loop μ-loop
 loop-again c =
-    let loop = c .before .before .before .before .before .loop in
-    (omega (arith, c .before .before .before .if1 .taken), E.emitting-more (loop .inv .1) (c .before .gate-clauses .ensures))
+    let gate = c .before .before .before .before in
+    let at = looped gate in
+    let args = start at .args in (
+      omega (arith, gate .before .if1 .taken),
+      E.emitting-more (at .loop .inv .1)
+          (E.emits-as gateMost (c .before .gate-clauses .ensures)
+          (gate-run (args .file .now) (args .shape) (at .loop .i) (gate .gate-at .result) (gate .gate-at .ensures .0))
+          (omega arith)),
+    )
 
 same-length : tie.Need-same-length Inv-loop μ-loop
 same-length c = E.emitting-length (c .before .before .loop .inv .1)
@@ -60,6 +81,8 @@ all-gates-spec =
     Inv-loop
     μ-loop
     loop-holds
+    gate-at-requires
+    add-gate-clauses
     gate-clauses-requires
     add-i
     loop-less

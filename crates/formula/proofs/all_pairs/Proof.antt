@@ -6,21 +6,20 @@ use borrow.Author.Needs.{needs}
 use Rattle.formula.specs.Emission.{gateMost, pairsMost}
 use Rattle.formula.specs.Late.{lent, pairRun}
 use Rattle.formula.proofs.PairClauses.{Here, stands-here, gated, pair-here}
-use Rattle.formula.proofs.Emission.{Emitting}
 use Rattle.formula.proofs.Emission as E
 use Rattle.formula.proofs.all_pairs.Statement.{statement}
 use Rattle.formula.proofs.all_pairs.Tie as tie
 
 abbrev Inv-loop : tie.InvT-loop
-Inv-loop file shape tops table starts formula₀ nodes to₀ k₀ formula to k =
-    (k ≤ length table / 2) × Emitting gateMost (pairRun file (lent shape tops table)) k formula₀ to₀ formula to
+Inv-loop file shape tops table starts formula₀ to₀ k₀ formula to k =
+    (k ≤ length table / 2) × E.Emitting gateMost (pairRun file (lent shape tops table)) k formula₀ to₀ formula to
 
 abbrev μ-loop : tie.MeasureT-loop
-μ-loop file shape tops table starts formula₀ nodes to₀ k₀ formula to k = length table / 2 - k
+μ-loop file shape tops table starts formula₀ to₀ k₀ formula to k = length table / 2 - k
 
 -- the places on the way
 abbrev start : tie.At-loop Inv-loop μ-loop → tie.Start Inv-loop μ-loop
-start c = c .before .before .before .before .before .before
+start c = c .before .before .before .before .before
 
 abbrev looped : tie.After-pair-at Inv-loop μ-loop → tie.At-loop Inv-loop μ-loop
 looped c = c .before .before
@@ -36,11 +35,8 @@ here : (c : tie.After-pair-at Inv-loop μ-loop) →
 here c = stands-here (looped c .loop .k) (c .pair-at .result) (start (looped c) .pre .2) (c .before .loop-test .taken)
     (c .pair-at .ensures)
 
-add-nodes : tie.Need-add-nodes Inv-loop μ-loop
-add-nodes c = omega (arith, c .before .before .before .before .before .pre .1 .slices .nodes-few)
-
 loop-holds : tie.Need-loop-holds Inv-loop μ-loop
-loop-holds c = (omega arith, E.emitting-starts _ _ _ _ (c .before .before .before .before .before .pre .3 .fewer))
+loop-holds c = (omega arith, E.emitting-starts _ _ _ _ (c .before .before .before .before .pre .3 .fewer))
 
 pair-at-requires : tie.Need-pair-at-requires Inv-loop μ-loop
 pair-at-requires c κs = search needs
@@ -53,37 +49,28 @@ gate-at-requires c κs =
     let pair = c .before .before in
     (start (looped pair) .pre .0 .tables, omega (arith, here pair .stands .low, here pair .stands .high))
 
-add-pair-clauses : tie.Need-add-pair-clauses Inv-loop μ-loop
-add-pair-clauses c =
-    let s = start (looped (paired c)) in
-    omega (arith, s .pre .1 .slices .nodes-few, s .pre .1 .slices .pairs-few)
-
-add-pair-clauses-2 : tie.Need-add-pair-clauses-2 Inv-loop μ-loop
-add-pair-clauses-2 c =
-    let s = start (looped (paired c)) in
-    omega (arith, s .pre .1 .slices .nodes-few, s .pre .1 .slices .pairs-few)
+pair-variable-requires : tie.Need-pair-variable-requires Inv-loop μ-loop
+pair-variable-requires c κs = search needs
 
 pair-clauses-requires : tie.Need-pair-clauses-requires Inv-loop μ-loop
 pair-clauses-requires c κs =
-    let gate = c .before in
-    let loop = looped (paired gate) .loop in
-    let s = start (looped (paired gate)) in
-    let known = gated (gate .gate-at .result) (here (paired gate) .stands) (gate .gate-at .ensures .0) (s .pre .0) in
-    let nodes = s .pre .1 .slices .nodes-few in
-    let pairs = s .pre .1 .slices .pairs-few in (
+    let variable = c .before .pair-variable .ensures in
+    let gate = c .before .before in
+    let pair = paired gate in
+    let at = looped pair in
+    let s = start at in
+    let few = s .pre .1 .slices .pairs-few in (
       s .pre .0 .tables,
       s .pre .1,
-      known .drivers,
-      known .within,
-      known .few,
+      gated (gate .gate-at .result) (here pair .stands) (gate .gate-at .ensures .0) (s .pre .0),
       omega arith,
-      omega (arith, nodes, pairs),
-      record { place = omega (arith, loop .inv .1 .emits .few, pairs, s .pre .3 .place); fewer = loop .inv .1 .emits .fewer },
+      omega (arith, s .pre .1 .slices .nodes-few, few, pair .before .loop-test .taken),
+      E.emitting-fits 65536 (s .pre .3) (at .loop .inv .1) (omega (arith, few, pair .before .loop-test .taken)),
     )
 
 add-k : tie.Need-add-k Inv-loop μ-loop
 add-k c =
-    let pair = paired (c .before .before .before) in
+    let pair = paired (c .before .before .before .before) in
     omega (arith, pair .before .loop-test .taken, start (looped pair) .pre .1 .slices .pairs-few)
 
 loop-less : tie.Need-loop-less Inv-loop μ-loop
@@ -91,12 +78,14 @@ loop-less c = search needs
 
 loop-again : tie.Need-loop-again Inv-loop μ-loop
 loop-again c =
-    let gate = c .before .before .before in
+    let variable = c .before .before .before in
+    let gate = variable .before in
     let pair = paired gate in (
       omega (arith, pair .before .loop-test .taken),
       E.emitting-more (looped pair .loop .inv .1)
           (E.emits-as gateMost (c .before .pair-clauses .ensures)
-          (pair-here (gate .gate-at .result) (here pair .stands) (gate .gate-at .ensures .0) (here pair .is)) (omega arith)),
+          (pair-here (gate .gate-at .result) (here pair .stands) (gate .gate-at .ensures .0) (here pair .is)
+          (variable .pair-variable .ensures)) (omega arith)),
     )
 
 same-length : tie.Need-same-length Inv-loop μ-loop
@@ -114,13 +103,11 @@ all-pairs-spec =
     (tie.spec
     Inv-loop
     μ-loop
-    add-nodes
     loop-holds
     pair-at-requires
     sub-gate-at
     gate-at-requires
-    add-pair-clauses
-    add-pair-clauses-2
+    pair-variable-requires
     pair-clauses-requires
     add-k
     loop-less

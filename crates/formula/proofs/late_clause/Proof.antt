@@ -1,4 +1,5 @@
--- `formula::late_clause` meets its contract: left out where something is late outright, else three runs. Assumes nothing.
+-- `formula::late_clause` meets its contract: left out where something is late outright, else three runs. Assumes
+-- nothing.
 use mathlib.Core.Path.{refl}
 use native.Mathlib.Omega.{arith}
 use Rattle.formula.proofs.Emission.{emits-none, emits-then, emits-as}

@@ -28,13 +28,9 @@ slice-aggregate-late-clause-2 c = search needs
 late-clause-requires : tie.Need-late-clause-requires
 late-clause-requires c κs =
     let pre = start (c .before .before .before .before .before) .pre in
-    let few = pre .0 .counts .outputs-few in (
-      omega arith,
-      search needs,
-      search needs,
-      omega (arith, few),
-      record { place = omega (arith, few, pre .3 .place); fewer = pre .3 .fewer },
-    )
+    let few = pre .0 .counts .outputs-few in
+    let fits = pre .3 in
+    search needs
 
 same-length : tie.Need-same-length
 same-length c = search needs

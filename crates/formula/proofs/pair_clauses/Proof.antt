@@ -59,10 +59,13 @@ returns : tie.Need-returns
 returns c =
     let kind = c .before .before .before .before .before .before in
     let late = kind .before .before .before in
+    let read = reading late in
+    let s = start read in
     rw (kind .kind .given .1)
     (emits-as gateMost (emits-then (late .late-clause .ensures) (c .before .put-shares .ensures))
-    (ap₂ (λ (x y : List Token). x ++ y) (late-drivers (reading late .read-asked .ensures) (start (reading late) .args .pair) (start (reading late) .pre .5)) (control-read (reading late .read-asked .ensures) (kind .kind .given .0 .0) (start (reading late) .args .pair)))
-    (omega (arith, start (reading late) .pre .4)))
+    (ap₂ (λ (x y : List Token). x ++ y) (late-drivers (read .read-asked .ensures) (s .args .pair) (s .pre .3))
+    (control-read (read .read-asked .ensures) (kind .kind .given .0 .0) (s .args .pair)))
+    (omega (arith, s .pre .2 .few)))
 
 enum-told : tie.Need-enum-told
 enum-told c = search needs
@@ -73,7 +76,11 @@ same-length-2 c = search needs
 returns-2 : tie.Need-returns-2
 returns-2 c =
     let late = c .before .before .before in
-    rw (c .enum-told .given .1) (emits-as gateMost (late .late-clause .ensures) (late-drivers (reading late .read-asked .ensures) (start (reading late) .args .pair) (start (reading late) .pre .5)) (omega (arith, start (reading late) .pre .4)))
+    let read = reading late in
+    let s = start read in
+    rw (c .enum-told .given .1)
+    (emits-as gateMost (late .late-clause .ensures)
+    (late-drivers (read .read-asked .ensures) (s .args .pair) (s .pre .3)) (omega (arith, s .pre .2 .few)))
 
 enum-told-2 : tie.Need-enum-told-2
 enum-told-2 c = search needs
@@ -84,7 +91,11 @@ same-length-3 c = search needs
 returns-3 : tie.Need-returns-3
 returns-3 c =
     let late = c .before .before .before in
-    rw (c .enum-told2 .given .1) (emits-as gateMost (late .late-clause .ensures) (late-drivers (reading late .read-asked .ensures) (start (reading late) .args .pair) (start (reading late) .pre .5)) (omega (arith, start (reading late) .pre .4)))
+    let read = reading late in
+    let s = start read in
+    rw (c .enum-told2 .given .1)
+    (emits-as gateMost (late .late-clause .ensures)
+    (late-drivers (read .read-asked .ensures) (s .args .pair) (s .pre .3)) (omega (arith, s .pre .2 .few)))
 
 pub pair-clauses-spec : {M : Type 1} → statement M
 pair-clauses-spec =

@@ -1,4 +1,5 @@
--- `formula::put_literal` meets its contract: the code is twice the variable, one more where it is to be 0. Assumes nothing.
+-- `formula::put_literal` meets its contract: a code is twice the variable, one more where it is to be 0. Assumes
+-- nothing.
 use borrow.Author.Needs.{needs}
 use Rattle.formula.proofs.put_literal.Statement.{statement}
 use Rattle.formula.proofs.put_literal.Tie as tie

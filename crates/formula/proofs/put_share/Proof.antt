@@ -1,23 +1,20 @@
 -- `formula::put_share` meets its contract: the share decides which run it is. Assumes nothing.
 use mathlib.Core.Path.{refl}
 use native.Mathlib.Omega.{arith}
-use borrow.Author.Needs.{needs}
 use borrow.Author.Tests.{eq-eqb, ne-eqb}
 use Rattle.formula.proofs.Emission.{emits-none, emits-then, emits-as}
+use borrow.Author.Needs.{needs}
 use Rattle.formula.proofs.put_share.Statement.{statement}
 use Rattle.formula.proofs.put_share.Tie as tie
 
 enum-known-share : tie.Need-enum-known-share
 enum-known-share c = search needs
 
-add-put-literal : tie.Need-add-put-literal
-add-put-literal c = search needs
+put-node-requires : tie.Need-put-node-requires
+put-node-requires c κs = search needs
 
 put-literal-requires : tie.Need-put-literal-requires
 put-literal-requires c κs = search needs
-
-put-literal-requires-2 : tie.Need-put-literal-requires-2
-put-literal-requires-2 c κs = search needs
 
 put-end-requires : tie.Need-put-end-requires
 put-end-requires c κs = search needs
@@ -27,21 +24,18 @@ same-length c = search needs
 
 returns : tie.Need-returns
 returns c =
-    let gate = c .before .before .before .before in
-    let driver = gate .before .before .before in
+    let own = c .before .before .before .before in
+    let driver = own .before .before .before in
     rw (driver .before .before .before .share .given .1)
     (emits-as 4
-    (emits-then (emits-then (driver .put-literal .ensures) (gate .put-literal2 .ensures)) (c .before .put-end .ensures))
+    (emits-then (emits-then (driver .put-node .ensures) (own .put-literal .ensures)) (c .before .put-end .ensures))
     refl (omega arith))
 
 enum-known-share-2 : tie.Need-enum-known-share-2
 enum-known-share-2 c = search needs
 
-add-put-literal-2 : tie.Need-add-put-literal-2
-add-put-literal-2 c = search needs
-
-put-literal-requires-3 : tie.Need-put-literal-requires-3
-put-literal-requires-3 c κs = search needs
+put-node-requires-2 : tie.Need-put-node-requires-2
+put-node-requires-2 c κs = search needs
 
 same-length-2 : tie.Need-same-length-2
 same-length-2 c = search needs
@@ -49,7 +43,7 @@ same-length-2 c = search needs
 returns-2 : tie.Need-returns-2
 returns-2 c =
     rw (c .before .before .before .before .share2 .given .1)
-    (emits-as 4 (c .before .put-literal3 .ensures) refl (omega arith))
+    (emits-as 4 (c .before .put-node2 .ensures) refl (omega arith))
 
 enum-told : tie.Need-enum-told
 enum-told c = search needs
@@ -70,20 +64,18 @@ enum-known-share-3 c = search needs
 
 returns-4 : tie.Need-returns-4
 returns-4 c =
-    rw (c .before .before .share3 .given .1, eq-eqb _ 1 (c .if1 .taken))
-    (emits-as 4 (emits-none _ _ (c .before .before .before .before .pre .3 .fewer)) refl (omega arith))
+    let share = c .before .before in
+    rw (share .share3 .given .1, eq-eqb _ 1 (c .if1 .taken))
+    (emits-as 4 (emits-none _ _ (share .before .before .pre .3 .fewer)) refl (omega arith))
 
-put-literal-requires-4 : tie.Need-put-literal-requires-4
-put-literal-requires-4 c κs = search needs
+put-literal-requires-2 : tie.Need-put-literal-requires-2
+put-literal-requires-2 c κs = search needs
 
 put-part-requires-2 : tie.Need-put-part-requires-2
 put-part-requires-2 c κs = search needs
 
-add-put-literal-3 : tie.Need-add-put-literal-3
-add-put-literal-3 c = search needs
-
-put-literal-requires-5 : tie.Need-put-literal-requires-5
-put-literal-requires-5 c κs = search needs
+put-node-requires-3 : tie.Need-put-node-requires-3
+put-node-requires-3 c κs = search needs
 
 put-end-requires-2 : tie.Need-put-end-requires-2
 put-end-requires-2 c κs = search needs
@@ -95,28 +87,26 @@ returns-5 : tie.Need-returns-5
 returns-5 c =
     let driver = c .before .before .before .before in
     let part = driver .before .before .before in
-    let negated = part .before .before .before in
-    let test = negated .before .before in
+    let own = part .before .before .before in
+    let test = own .before .before in
     rw (test .before .before .share3 .given .1, ne-eqb _ 1 (test .if1 .left))
     (emits-as 4
     (emits-then
-    (emits-then (negated .put-literal4 .ensures) (part .put-part2 .ensures))
-    (emits-then (driver .put-literal5 .ensures) (c .before .put-end2 .ensures))) refl (omega arith))
+    (emits-then (own .put-literal2 .ensures) (part .put-part2 .ensures))
+    (emits-then (driver .put-node3 .ensures) (c .before .put-end2 .ensures))) refl (omega arith))
 
 pub put-share-spec : {M : Type 1} → statement M
 put-share-spec =
     tie.close
     (tie.spec
     enum-known-share
-    add-put-literal
+    put-node-requires
     put-literal-requires
-    put-literal-requires-2
     put-end-requires
     same-length
     returns
     enum-known-share-2
-    add-put-literal-2
-    put-literal-requires-3
+    put-node-requires-2
     same-length-2
     returns-2
     enum-told
@@ -125,10 +115,9 @@ put-share-spec =
     returns-3
     enum-known-share-3
     returns-4
-    put-literal-requires-4
+    put-literal-requires-2
     put-part-requires-2
-    add-put-literal-3
-    put-literal-requires-5
+    put-node-requires-3
     put-end-requires-2
     same-length-4
     returns-5)

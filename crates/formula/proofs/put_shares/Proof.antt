@@ -5,14 +5,14 @@ use native.Mathlib.Omega.{arith}
 use lib.ListN.{getD}
 use borrow.Author.Needs.{needs}
 use Rattle.formula.specs.Emission.{shareMost, shareRun}
-use Rattle.formula.proofs.Emission.{Emitting}
 use Rattle.formula.proofs.Emission as E
 use Rattle.formula.proofs.put_shares.Statement.{statement}
 use Rattle.formula.proofs.put_shares.Tie as tie
 
 abbrev Inv-loop : tie.InvT-loop
 Inv-loop nodes lates count share own formula₀ to₀ i₀ formula to i =
-    (i ≤ count) × Emitting shareMost (λ k. shareRun share own (getD nodes k 0) (getD lates k 0)) i formula₀ to₀ formula to
+    (i ≤ count)
+    × E.Emitting shareMost (λ k. shareRun share own (getD nodes k 0) (getD lates k 0)) i formula₀ to₀ formula to
 
 abbrev μ-loop : tie.MeasureT-loop
 μ-loop nodes lates count share own formula₀ to₀ i₀ formula to i = count - i
@@ -20,23 +20,8 @@ abbrev μ-loop : tie.MeasureT-loop
 loop-holds : tie.Need-loop-holds Inv-loop μ-loop
 loop-holds c = (omega arith, E.emitting-starts _ _ _ _ (c .before .before .pre .4 .fewer))
 
-mul-widen : tie.Need-mul-widen Inv-loop μ-loop
-mul-widen c = search needs
-
-shared-slice-read-widen : tie.Need-shared-slice-read-widen Inv-loop μ-loop
-shared-slice-read-widen c = search needs
-
-widen-requires : tie.Need-widen-requires Inv-loop μ-loop
-widen-requires c κs = search needs
-
-mul-widen-2 : tie.Need-mul-widen-2 Inv-loop μ-loop
-mul-widen-2 c = search needs
-
-shared-slice-read-widen-2 : tie.Need-shared-slice-read-widen-2 Inv-loop μ-loop
-shared-slice-read-widen-2 c = search needs
-
-widen-requires-2 : tie.Need-widen-requires-2 Inv-loop μ-loop
-widen-requires-2 c κs = search needs
+asked-at-requires : tie.Need-asked-at-requires Inv-loop μ-loop
+asked-at-requires c κs = search needs
 
 put-share-requires : tie.Need-put-share-requires Inv-loop μ-loop
 put-share-requires c κs = search needs
@@ -49,14 +34,14 @@ loop-less c = search needs
 
 loop-again : tie.Need-loop-again Inv-loop μ-loop
 loop-again c =
-    let late = c .before .before .before in
-    let node = late .before .before in
-    let loop = node .before .before .before .loop in
-    let args = node .before .before .before .before .before .before .args in (
+    let driver = c .before .before .before in
+    let loop = driver .before .before .loop in
+    let args = driver .before .before .before .before .before .args in (
       omega arith,
       E.emitting-more (loop .inv .1)
           (E.emits-as shareMost (c .before .put-share .ensures)
-          (ap₂ (shareRun (args .share) (args .own)) (node .widen .ensures .0) (late .widen2 .ensures .0)) (omega arith)),
+          (ap₂ (shareRun (args .share) (args .own)) (driver .asked-at .ensures .0) (driver .asked-at .ensures .1))
+          (omega arith)),
     )
 
 same-length : tie.Need-same-length Inv-loop μ-loop
@@ -66,7 +51,8 @@ returns : tie.Need-returns Inv-loop μ-loop
 returns c =
     let loop = c .before .loop in
     let args = c .before .before .before .before .args in
-    E.emitting-ends (args .count) (args .count * shareMost) (loop .inv .1) (loop .inv .0) (c .loop-test .left) (omega arith)
+    E.emitting-ends (args .count) (args .count * shareMost) (loop .inv .1) (loop .inv .0) (c .loop-test .left)
+    (omega arith)
 
 pub put-shares-spec : {M : Type 1} → statement M
 put-shares-spec =
@@ -75,12 +61,7 @@ put-shares-spec =
     Inv-loop
     μ-loop
     loop-holds
-    mul-widen
-    shared-slice-read-widen
-    widen-requires
-    mul-widen-2
-    shared-slice-read-widen-2
-    widen-requires-2
+    asked-at-requires
     put-share-requires
     add-i
     loop-less

@@ -1,12 +1,11 @@
 -- `formula::read_asked` meets its contract: entry after entry, what it asks for is stored. Assumes nothing.
-use mathlib.Core.Path.{_≡_, refl, ap, _∙_}
+use mathlib.Core.Path.{_≡_, refl}
 use Prim.Native.Nat.{_-_, _≤_}
 use native.Mathlib.Omega.{arith}
-use lib.ListN.{length, length-set}
+use lib.ListN.{length}
 use borrow.Author.Needs.{needs}
-use Rattle.formula.specs.declared.Asked.{Asked}
 use Rattle.formula.specs.Late.{lent, Reads}
-use Rattle.formula.proofs.Asking.{served-one, reads-none, reads-more, reads-all}
+use Rattle.formula.proofs.Asking.{asks-read, reads-none, reads-more, reads-all}
 use Rattle.formula.proofs.read_asked.Statement.{statement}
 use Rattle.formula.proofs.read_asked.Tie as tie
 
@@ -25,31 +24,23 @@ start c = c .before .before .before .before .before .before .before
 loop-holds : tie.Need-loop-holds Inv-loop μ-loop
 loop-holds c = (omega arith, refl, refl, reads-none _ _ _ _ _ _ _)
 
-add-ask : tie.Need-add-ask Inv-loop μ-loop
-add-ask c = search needs
+add-moment-at : tie.Need-add-moment-at Inv-loop μ-loop
+add-moment-at c = search needs
 
-ask-requires : tie.Need-ask-requires Inv-loop μ-loop
-ask-requires c κs =
+moment-at-requires : tie.Need-moment-at-requires Inv-loop μ-loop
+moment-at-requires c κs =
     let pre = start (c .before) .pre in
-    (pre .0, pre .1, served-one (pre .2) (c .before .loop .i) (c .loop-test .taken))
+    (pre .0, omega (arith, pre .2 .within))
 
-cast-nodes : tie.Need-cast-nodes Inv-loop μ-loop
-cast-nodes c = search needs
+late-code-requires : tie.Need-late-code-requires Inv-loop μ-loop
+late-code-requires c κs =
+    let loop = c .before .before in
+    let pre = start loop .pre in
+    let asked = c .moment-at .ensures in
+    (pre .1, asks-read (loop .loop .i) (pre .2) (c .before .loop-test .taken) (asked .0) (asked .1))
 
-mul-nodes : tie.Need-mul-nodes Inv-loop μ-loop
-mul-nodes c = search needs
-
-slice-write-nodes : tie.Need-slice-write-nodes Inv-loop μ-loop
-slice-write-nodes c = search needs
-
-cast-lates : tie.Need-cast-lates Inv-loop μ-loop
-cast-lates c = search needs
-
-mul-lates : tie.Need-mul-lates Inv-loop μ-loop
-mul-lates c = search needs
-
-slice-write-lates : tie.Need-slice-write-lates Inv-loop μ-loop
-slice-write-lates c = search needs
+store-requires : tie.Need-store-requires Inv-loop μ-loop
+store-requires c κs = search needs
 
 add-i : tie.Need-add-i Inv-loop μ-loop
 add-i c = search needs
@@ -59,16 +50,19 @@ loop-less c = search needs
 
 loop-again : tie.Need-loop-again Inv-loop μ-loop
 loop-again c =
-    let asked = c .before .before .before in
+    let stored = c .before .before .before .before in
+    let late = stored .before .before .before in
+    let asked = late .before in
     let loop = asked .before .before .loop in
-    let is = asked .ask .ensures .0 in
-    let nodes = loop .inv .1 in
-    let lates = loop .inv .2 in (
+    let pre = start (asked .before .before) .pre in
+    let test = asked .before .loop-test .taken in (
       omega arith,
-      length-set (loop .nodes) _ _ ∙ nodes,
-      length-set (loop .lates) _ _ ∙ lates,
-      reads-more (asked .ask .result .node) (asked .ask .result .late) (loop .inv .3) (omega arith) (omega arith)
-          (ap (λ (a : Asked). a .node) is) (ap (λ (a : Asked). a .late) is),
+      search needs,
+      search needs,
+      reads-more (asked .moment-at .result .node) (late .late-code .result) (loop .inv .3)
+          (omega (arith, loop .inv .1, pre .3)) (omega (arith, loop .inv .2, pre .4))
+          (asked .moment-at .ensures .0) (asked .moment-at .ensures .1) (late .late-code .ensures .is)
+          (stored .store .ensures .0) (stored .store .ensures .1),
     )
 
 same-length : tie.Need-same-length Inv-loop μ-loop
@@ -89,14 +83,10 @@ read-asked-spec =
     Inv-loop
     μ-loop
     loop-holds
-    add-ask
-    ask-requires
-    cast-nodes
-    mul-nodes
-    slice-write-nodes
-    cast-lates
-    mul-lates
-    slice-write-lates
+    add-moment-at
+    moment-at-requires
+    late-code-requires
+    store-requires
     add-i
     loop-less
     loop-again
