@@ -1,7 +1,7 @@
 -- The loop that fills the table: its end holds the pairs of the least set from the key (f, b) on, so that at the end it
 -- holds all, and where one more is asked for and no room is left there are too many. Laws: filling-starts,
--- filling-bound, filling-top, filling-sorted, filling-asks, filling-asked, filling-down, filling-more, filling-full,
--- filling-ends. Assumes nothing.
+-- filling-top, filling-sorted, filling-asks, filling-asked, filling-down, filling-ends, filling-more, filling-full.
+-- Assumes nothing.
 use mathlib.Core.Path.{_≡_, refl, sym, ap, ap₂, subst, _∙_}
 use mathlib.Core.Logic.{_⊎_, inl, inr}
 use mathlib.Core.List.{
@@ -98,10 +98,6 @@ module _ {file : List ℕ} {shape : Shape} (holds : Holds file shape) (target : 
   seen {table = table} {at = at} w = ap pairsIn (part table (at * 2) ∙ w .is) ∙ pairs-flat (w .done)
 
   module _ {table₀ table : List ℕ} {at f b : ℕ} (w : Filling file shape target table₀ table at f b) where
-    -- b is a top and one more at most
-    pub filling-bound : b ≤ 447553
-    filling-bound = omega (arith, w .bound, small f)
-
     -- the top of the node below, as it is read, is small
     pub filling-top : {tops : List ℕ} → shape .inputs < f → Tops file shape tops → (x : ℕ) → x ≡ getD tops (f - 1) 0 →
         x ≤ 447552

@@ -1,6 +1,5 @@
 -- Pairs as numbers and back: two numbers a pair, so that pair k stands at 2k and 2k + 1. Laws: pairs-flat, flat-length,
--- pairs-length, pairs-at, key-here, node-here, time-here; mem-at, at-mem; zeros-at; part. Assumes
--- nothing.
+-- pairs-length, pairs-at, key-here, time-here; mem-at, at-mem; zeros-at; part. Assumes nothing.
 use mathlib.Core.Path.{_≡_, refl, sym, ap}
 use mathlib.Core.List.{List, [], _∷_, List·Memᴰ, List·Memᴰ·head, List·Memᴰ·tail}
 use Prim.Native.Nat.{ℕ, zero, suc, _+_, _*_, _-_, _/_, _<_}
@@ -79,10 +78,6 @@ flat-length (x ∷ l) = omega (arith, flat-length l)
 pub key-here : (l : List ℕ) (k node time : ℕ) → k < length l / 2 → node ≡ getD l (k * 2) 0 →
     time ≡ getD l (k * 2 + 1) 0 → node * 4294967296 + time ≡ keyOf (pairAt (pairsIn l) k)
 key-here l k node time h e f = rw (pairs-at l k h, e, f)
-
-pub node-here : (l : List ℕ) (k node : ℕ) → k < length l / 2 → node ≡ getD l (k * 2) 0 →
-    pairAt (pairsIn l) k .0 ≡ node
-node-here l k node h e = rw (pairs-at l k h, e)
 
 pub time-here : (l : List ℕ) (k time : ℕ) → k < length l / 2 → time ≡ getD l (k * 2 + 1) 0 →
     pairAt (pairsIn l) k .1 ≡ time

@@ -1,7 +1,7 @@
 -- The pins that each node drives, in chains of links: a new link stands before its driver's others and leaves all chains
 -- as they were. Laws: chains-start, chains-same, chains-more, chains-wide; to-starts, to-more, to-ends, drives-none;
 -- link-gate, link-delay, link-next. Assumes nothing.
-use mathlib.Core.Path.{_≡_, refl, sym, ap, ap₂, subst, _∙_}
+use mathlib.Core.Path.{_≡_, sym, ap, subst, _∙_}
 use mathlib.Core.Logic.{_⊎_, inl, inr}
 use mathlib.Core.List.{
   List,

@@ -1,5 +1,6 @@
--- What the functions on the lent table say: its numbers as pairs, what a search in it finds, and what asks for a pair
--- where the pairs after it are known. Interface: none of it; it serves the functions under `table` and `place`.
+-- What the functions on the lent table say: its numbers as pairs, what a search in it finds, times as marks, what asks
+-- for a pair where the pairs after it are known, and the pins of each node in chains. Interface: none of it; it serves
+-- the functions under `table` and `place`.
 use mathlib.Core.Path.{_≡_}
 use mathlib.Core.List.{List, [], _∷_, List·Memᴰ}
 use mathlib.Core.Logic.{_⊎_}

@@ -1,5 +1,6 @@
-// The tops of all nodes, and the pairs of a target in a lent table. The table is filled from its end, each time with
-// the largest pair that is asked for and stands before those found: nothing is inserted or sorted. Assumes nothing.
+// The tops of all nodes, and the pairs of a target in a lent table. The table is filled from its end, one node after the
+// other from the last: what is asked of a node is marked, and read from the highest mark down, so that nothing is
+// inserted or sorted. Assumes nothing.
 use netlist::Shape;
 ghost use mathlib.Core.Path.{_≡_};
 ghost use mathlib.Core.List.{List, _∷_, _++_};

@@ -1,7 +1,7 @@
 -- `pairs::fill` meets its contract: what is found and what is marked are all that is asked for, and at each turn a bit, a
 -- word or a node is done. Assumes nothing.
 use mathlib.Core.Path.{_≡_, refl, ap}
-use Prim.Native.Nat.{ℕ, _+_, _-_, _*_, _%_, _^_, _≤_}
+use Prim.Native.Nat.{ℕ, _+_, _-_, _*_, _%_, _^_, _≤_, _<_}
 use native.Mathlib.Omega.{arith}
 use borrow.Author.Needs.{needs}
 use lib.ListN.{length, length-set}
@@ -31,23 +31,36 @@ abbrev μ-loop : tie.MeasureT-loop
 μ-loop file shape target tops heads links table₀ marks₀ at₀ f₀ word₀ bits₀ table marks at f word bits =
     (f * 10000 + word) * 18446744073709551616 + bits
 
--- the places: the start, and the top of the node below
+-- the places: the start, and the turn of a word that is read, of a node that is done, and of a bit that is taken
 abbrev start : tie.At-loop Inv-loop μ-loop → tie.Start Inv-loop μ-loop
 start c = c .before .before .before .before .before .before .before .before
 
+abbrev reads : tie.After-last-word Inv-loop μ-loop → tie.At-loop Inv-loop μ-loop
+reads c = c .before .before .before .before
+
+abbrev lower : tie.After-widen Inv-loop μ-loop → tie.Else3 Inv-loop μ-loop
+lower c = c .before .before
+
+abbrev ended : tie.Else3 Inv-loop μ-loop → tie.At-loop Inv-loop μ-loop
+ended c = c .before .before .before .before
+
+abbrev takes : tie.After-highest Inv-loop μ-loop → tie.At-loop Inv-loop μ-loop
+takes c = c .before .before
+
+-- the word that is read is one of the marks
+word-within : (c : tie.After-last-word Inv-loop μ-loop) → c .last-word .result < length (reads c .loop .marks)
+word-within c = omega (arith, c .last-word .ensures .within, reads c .loop .inv .0 .scanning .room)
+
+-- the top of the node below
 lower-top : (c : tie.After-widen Inv-loop μ-loop) → c .widen .result ≤ 447552
 lower-top c =
-    let lower = c .before .before in
-    let turn = lower .before .before .before .before in
-    filling-top (start turn .pre .0) _ (turn .loop .inv .0 .filling) (lower .if3 .left) (start turn .pre .1) _
+    let turn = ended (lower c) in
+    filling-top (start turn .pre .0) _ (turn .loop .inv .0 .filling) (lower c .if3 .left) (start turn .pre .1) _
     (c .widen .ensures .0)
 
 -- the time of the highest bit, and the bit as it is shifted
-time : (c : tie.After-highest Inv-loop μ-loop) →
-    c .before .before .loop .word * 64 + c .highest .result ≤ 447552
-time c =
-    let turn = c .before .before in
-    finding-time (start turn .pre .0) _ (turn .loop .inv .0) (c .highest .ensures)
+time : (c : tie.After-highest Inv-loop μ-loop) → takes c .loop .word * 64 + c .highest .result ≤ 447552
+time c = finding-time (start (takes c) .pre .0) _ (takes c .loop .inv .0) (c .highest .ensures)
 
 bit-power : (c : tie.After-highest Inv-loop μ-loop) →
     (1 * 2 ^ c .highest .result) % 18446744073709551616 ≡ 2 ^ c .highest .result
@@ -69,29 +82,24 @@ last-word-requires c κs = omega (arith, c .before .before .before .loop .inv .0
 
 mul-bits : tie.Need-mul-bits Inv-loop μ-loop
 mul-bits c =
-    let turn = c .before .before .before .before in
-    let good = start turn .good .1 .1 .1 .1 .1 .1 .1 .0 in
-    omega (arith, c .last-word .ensures .within, turn .loop .inv .0 .scanning .room, turn .loop .inv .1)
+    let good = start (reads c) .good .1 .1 .1 .1 .1 .1 .1 .0 in
+    omega (arith, word-within c, reads c .loop .inv .1)
 
 slice-read-bits : tie.Need-slice-read-bits Inv-loop μ-loop
-slice-read-bits c =
-    let turn = c .before .before .before .before .before in
-    omega (arith, c .before .last-word .ensures .within, turn .loop .inv .0 .scanning .room)
+slice-read-bits c = word-within (c .before)
 
 mul-marks : tie.Need-mul-marks Inv-loop μ-loop
 mul-marks c =
-    let turn = c .before .before .before .before .before in
+    let turn = reads (c .before) in
     let good = start turn .good .1 .1 .1 .1 .1 .1 .1 .0 in
-    omega (arith, c .before .last-word .ensures .within, turn .loop .inv .0 .scanning .room, turn .loop .inv .1)
+    omega (arith, word-within (c .before), turn .loop .inv .1)
 
 slice-write-marks : tie.Need-slice-write-marks Inv-loop μ-loop
-slice-write-marks c =
-    let turn = c .before .before .before .before .before in
-    omega (arith, c .before .last-word .ensures .within, turn .loop .inv .0 .scanning .room)
+slice-write-marks c = word-within (c .before)
 
 loop-less : tie.Need-loop-less Inv-loop μ-loop
 loop-less c =
-    let turn = c .before .before .before .before .before in
+    let turn = reads (c .before) in
     let word = c .before .last-word in
     word-less (turn .loop .f * 10000) (word .result) (turn .loop .word) _ _
     (omega (arith, word .ensures .within, c .before .before .before .if2 .taken))
@@ -99,9 +107,10 @@ loop-less c =
 
 loop-again : tie.Need-loop-again Inv-loop μ-loop
 loop-again c =
-    let turn = c .before .before .before .before .before in (
-      finding-next (start turn .pre .0) _ (turn .loop .inv .0) (c .before .before .before .before .if1 .taken) _
-          (c .before .before .before .if2 .taken) (c .before .last-word .ensures) refl,
+    let turn = reads (c .before) in
+    let some = c .before .before .before in (
+      finding-next (start turn .pre .0) _ (turn .loop .inv .0) (some .before .if1 .taken) _ (some .if2 .taken)
+          (c .before .last-word .ensures) refl,
       simp length-set (turn .loop .inv .1),
     )
 
@@ -113,7 +122,7 @@ mul-widen c = omega arith
 
 shared-slice-read-widen : tie.Need-shared-slice-read-widen Inv-loop μ-loop
 shared-slice-read-widen c =
-    let turn = c .before .before .before .before .before in
+    let turn = ended (c .before) in
     omega (arith, tops-long (start turn .pre .0) (start turn .pre .1), turn .loop .inv .0 .filling .nodes)
 
 widen-requires : tie.Need-widen-requires Inv-loop μ-loop
@@ -127,7 +136,7 @@ mul-mark-asked-2 c = omega arith
 
 sub-mark-asked : tie.Need-sub-mark-asked Inv-loop μ-loop
 sub-mark-asked c =
-    let filling = c .before .before .before .before .before .before .loop .inv .0 .filling in
+    let filling = ended (lower c) .loop .inv .0 .filling in
     omega (arith, filling .len, filling .room)
 
 part-mark-asked-start : tie.Need-part-mark-asked-start Inv-loop μ-loop
@@ -138,10 +147,10 @@ part-mark-asked-end c = search needs
 
 mark-asked-requires : tie.Need-mark-asked-requires Inv-loop μ-loop
 mark-asked-requires c κs =
-    let widened = c .before .before .before in
-    let turn = widened .before .before .before .before .before .before in
+    let below = c .before .before .before in
+    let turn = ended (lower below) in
     let given = start turn .pre in
-    let top = lower-top widened in (
+    let top = lower-top below in (
       filling-sorted (given .0) _ (turn .loop .inv .0 .filling),
       given .0,
       omega (arith, turn .loop .inv .0 .filling .nodes),
@@ -159,27 +168,27 @@ loop-less-2 c = omega (arith, lower-top (c .before .before .before .before .befo
 
 loop-again-2 : tie.Need-loop-again-2 Inv-loop μ-loop
 loop-again-2 c =
-    let widened = c .before .before .before .before .before .before in
-    let lower = widened .before .before in
-    let turn = lower .before .before .before .before in
+    let marked = c .before .before .mark-asked in
+    let below = c .before .before .before .before .before .before in
+    let turn = ended (lower below) in
     let given = start turn .pre in
-    let top = lower-top widened in
-    let same = c .before .before .mark-asked .kept .1 .1 .1 .1 .1 .1 .0 in (
-      finding-down (given .0) _ (turn .loop .inv .0) (lower .before .before .before .if1 .taken) (omega arith) _
-          (lower .if3 .left) (given .1) (widened .widen .ensures .0) (c .before .before .mark-asked .ensures)
+    let top = lower-top below in
+    let same = marked .kept .1 .1 .1 .1 .1 .1 .0 in (
+      finding-down (given .0) _ (turn .loop .inv .0) (lower below .before .before .before .if1 .taken) (omega arith) _
+          (lower below .if3 .left) (given .1) (below .widen .ensures .0) (marked .ensures)
           (omega (arith, given .4, turn .loop .inv .1)),
       omega (arith, turn .loop .inv .1),
     )
 
 same-length : tie.Need-same-length Inv-loop μ-loop
-same-length c = c .before .before .before .loop .inv .0 .filling .len
+same-length c = takes (c .before) .loop .inv .0 .filling .len
 
 same-length-2 : tie.Need-same-length-2 Inv-loop μ-loop
-same-length-2 c = c .before .before .before .loop .inv .1
+same-length-2 c = takes (c .before) .loop .inv .1
 
 returns : tie.Need-returns Inv-loop μ-loop
 returns c =
-    let turn = c .before .before .before in
+    let turn = takes (c .before) in
     finding-full (start turn .pre .0) _ (turn .loop .inv .0) (c .before .highest .ensures) (c .if4 .taken)
 
 highest-requires : tie.Need-highest-requires Inv-loop μ-loop
@@ -202,7 +211,7 @@ add-put-pair c = omega (arith, time (c .before .before))
 
 put-pair-requires : tie.Need-put-pair-requires Inv-loop μ-loop
 put-pair-requires c κs =
-    let turn = c .before .before .before .before in
+    let turn = takes (c .before .before) in
     let filling = turn .loop .inv .0 .filling in
     let holds = start turn .pre .0 in (
       omega (arith, filling .len, filling .room),
@@ -212,16 +221,16 @@ put-pair-requires c κs =
 
 loop-less-3 : tie.Need-loop-less-3 Inv-loop μ-loop
 loop-less-3 c =
-    let highest = c .before .before .before .before .before in
-    omega (arith, bit-power highest, highest .highest .ensures .least, pow-pos (highest .highest .result))
+    let taken = c .before .before .before .before .before in
+    omega (arith, bit-power taken, taken .highest .ensures .least, pow-pos (taken .highest .result))
 
 loop-again-3 : tie.Need-loop-again-3 Inv-loop μ-loop
 loop-again-3 c =
-    let high = c .before .before .before .before .before in
-    let turn = high .before .before in (
-      finding-more (start turn .pre .0) _ (turn .loop .inv .0) (high .highest .ensures) _ _ (omega arith)
-          (c .before .before .put-pair .ensures .0) (c .before .before .put-pair .ensures .1)
-          (ap (λ (x : ℕ). turn .loop .bits - x) (bit-power high)),
+    let put = c .before .before .put-pair in
+    let taken = c .before .before .before .before .before in
+    let turn = takes taken in (
+      finding-more (start turn .pre .0) _ (turn .loop .inv .0) (taken .highest .ensures) _ _ (omega arith)
+          (put .ensures .0) (put .ensures .1) (ap (λ (x : ℕ). turn .loop .bits - x) (bit-power taken)),
       turn .loop .inv .1,
     )
 

@@ -1,6 +1,6 @@
 -- `pairs::mark_asked` meets its contract: what the outputs and the pins walked by ask for is marked. Assumes nothing.
 use mathlib.Core.Path.{_≡_, refl}
-use Prim.Native.Nat.{_+_, _-_, _≤_, _<_}
+use Prim.Native.Nat.{_<_}
 use native.Mathlib.Omega.{arith}
 use lib.ListN.{length}
 use Rattle.pairs.specs.Table.{pairsIn}
