@@ -42,4 +42,5 @@ small file target pairsRoom formulaRoom = go (openOf file) refl
         let h = holds file shape e in
         let n = node-count file shape in
         rw (of-accepted file target pairsRoom formulaRoom shape e)
-        (of-circuit (circuitAt file shape) target pairsRoom formulaRoom (omega (arith, h .counts .inputs-few, h .counts .gates-few)))
+        (of-circuit (circuitAt file shape) target pairsRoom formulaRoom
+        (omega (arith, h .counts .inputs-few, h .counts .gates-few)))

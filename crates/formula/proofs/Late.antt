@@ -51,7 +51,8 @@ pairs-listed table pairs l = sym (even-part table) ∙ ap pairsIn (l .is) ∙ pa
 
 -- what the search finds
 pub place-found : {table : List ℕ} {node t r : ℕ} → Findable table (length table / 2) node t →
-    ((pairs : List (ℕ × ℕ)) → Lists table (length table / 2) pairs → r ≡ pairPlace node t pairs) → PlaceFound table node t r
+    ((pairs : List (ℕ × ℕ)) → Lists table (length table / 2) pairs → r ≡ pairPlace node t pairs) → PlaceFound table
+    node t r
 place-found {table} {node} {t} f h =
     let e = h (f .pairs) (f .lists) in
     let b = place-below node t (f .pairs) (f .here) in

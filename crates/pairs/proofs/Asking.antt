@@ -83,7 +83,8 @@ module _ {l : List (ℕ × ℕ)} {n delay top : ℕ} where
   pub pin-starts : {marks : List ℕ} {k : ℕ} → Precede l (n * 4294967296 + delay + 1) k →
       Adds marks (PinTo l n delay top k) marks
   pin-starts {k = k} p =
-      adds-none (PinTo l n delay top k) (λ t u. omega (arith, u .some, ap keyOf (u .is), p .before (u .place) (u .early)))
+      adds-none (PinTo l n delay top k)
+      (λ t u. omega (arith, u .some, ap keyOf (u .is), p .before (u .place) (u .early)))
 
   -- pair k is one of the node, with a time after the delay
   pub pin-here : {low high : ℕ} (k time : ℕ) → Sorted l → top < 1000000 → delay < 1000 →

@@ -1,5 +1,5 @@
--- The bits of a word: what setting one, and taking the highest away, leave of the others. Laws: one-shifted, highest-of;
--- bit-none; set-here, set-other; top-here, top-above; less-below, less-above. Assumes nothing.
+-- The bits of a word: what setting one, and taking the highest away, leave of the others. Laws: one-shifted,
+-- highest-of; bit-none; set-here, set-other; top-here, top-above; less-below, less-above. Assumes nothing.
 use mathlib.Core.Path.{_≡_, sym, ap, _∙_}
 use Prim.Native.Nat.{ℕ, suc, _+_, _*_, _-_, _/_, _%_, _^_, _<_, _≤_, max}
 use native.Mathlib.Omega.{arith}

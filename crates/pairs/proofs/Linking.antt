@@ -1,6 +1,6 @@
--- The pins that each node drives, in chains of links: a new link stands before its driver's others and leaves all chains
--- as they were. Laws: chains-start, chains-same, chains-more, chains-wide; to-starts, to-more, to-ends, drives-none;
--- link-gate, link-delay, link-next. Assumes nothing.
+-- The pins that each node drives, in chains of links: a new link stands before its driver's others and leaves all
+-- chains as they were. Laws: chains-start, chains-same, chains-more, chains-wide; to-starts, to-more, to-ends,
+-- drives-none; link-gate, link-delay, link-next. Assumes nothing.
 use mathlib.Core.Path.{_≡_, sym, ap, subst, _∙_}
 use mathlib.Core.Logic.{_⊎_, inl, inr}
 use mathlib.Core.List.{
@@ -110,7 +110,8 @@ chains-more {Has} {heads} {links} {n} Also d x v w room drives a b e f also g =
     own : Holding (Has d) links n (getD heads d 0)
     own = w .of d drives
 
-    go : (k : ℕ) → k < length heads → Dec (k ≡ d) → Holding (Also k) (set links n v) (n + 1) (getD (set heads d (n + 1)) k 0)
+    go : (k : ℕ) → k < length heads → Dec (k ≡ d) →
+        Holding (Also k) (set links n v) (n + 1) (getD (set heads d (n + 1)) k 0)
     go k h (no q) =
         rw (getD-set-other heads d k (n + 1) 0 q)
         (let c = w .of k h in

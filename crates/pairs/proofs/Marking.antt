@@ -1,6 +1,6 @@
--- Times marked in words of 64 bits: a mark as a bit, what a stored word leaves, and marks that are added one after the
--- other. Laws: no-mark, no-marks, words-more, to-bit, of-bit, of-set, to-other, of-other; adds-none, adds-same, adds-then, adds-one. Assumes
--- nothing.
+-- Times marked in words of 64 bits: a mark as a bit, what a stored word leaves, and marks that are added one after
+-- the other. Laws: no-mark, no-marks, words-more, to-bit, of-bit, of-set, to-other, of-other; adds-none, adds-same,
+-- adds-then, adds-one. Assumes nothing.
 use mathlib.Core.Path.{_≡_, sym, ap, _∙_}
 use mathlib.Core.Logic.{_⊎_, inl, inr}
 use mathlib.Core.List.{List}

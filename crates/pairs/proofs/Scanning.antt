@@ -45,7 +45,8 @@ module _ (Has : ℕ → Type 0) {marks : List ℕ} where
 
   -- nothing was marked, and then what has the property
   pub scanning-fresh : {old : List ℕ} {X : ℕ → Type 0} (b word : ℕ) → ((t : ℕ) → Marked old t → ⊥) → Adds old X marks →
-      ((t : ℕ) → X t → Has t × (t < b)) → ((t : ℕ) → Has t → t < b → X t) → ((t : ℕ) → t < b → t / 64 < word) → word < length marks →
+      ((t : ℕ) → X t → Has t × (t < b)) → ((t : ℕ) → Has t → t < b → X t) → ((t : ℕ) → t < b → t / 64 < word) → word <
+      length marks →
       Scanning Has b marks word 0
   scanning-fresh {old} {X} b word h w f g l r =
       record {

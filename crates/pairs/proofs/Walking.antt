@@ -1,5 +1,5 @@
--- The walk along a node's chain of links: what the outputs and the pins walked by ask for is marked, and the rest of the
--- chain holds the others. Laws: walking-starts, walking-here, walking-ends. Assumes nothing.
+-- The walk along a node's chain of links: what the outputs and the pins walked by ask for is marked, and the rest of
+-- the chain holds the others. Laws: walking-starts, walking-here, walking-ends. Assumes nothing.
 use mathlib.Core.Path.{_≡_, refl, sym, subst}
 use mathlib.Core.Logic.{_⊎_, inl, inr}
 use mathlib.Core.List.{

@@ -1,5 +1,5 @@
-// The tops of all nodes, and the pairs of a target in a lent table. The table is filled from its end, one node after the
-// other from the last: what is asked of a node is marked, and read from the highest mark down, so that nothing is
+// The tops of all nodes, and the pairs of a target in a lent table. The table is filled from its end, one node after
+// the other from the last: what is asked of a node is marked, and read from the highest mark down, so that nothing is
 // inserted or sorted. Assumes nothing.
 use netlist::Shape;
 ghost use mathlib.Core.Path.{_≡_};
@@ -143,7 +143,8 @@ pub fn starts(table: &[u32], count: usize, nodes: usize, starts: &mut [usize])
 pub fn place(table: &[u32], count: usize, starts: &[usize], node: usize, time: usize) -> usize
     requires { ⌜ Findable (now table) count node time
         × Bounds (pairsIn (take (count * 2) (now table))) (now starts) node ⌝ }
-    ensures { λ r. ⌜ ((pairs : List (ℕ × ℕ)) → Lists (now (table .entry)) count pairs → r ≡ pairPlace node time pairs) ⌝ }
+    ensures { λ r. ⌜ ((pairs : List (ℕ × ℕ)) → Lists (now (table .entry)) count pairs →
+        r ≡ pairPlace node time pairs) ⌝ }
 {
     let pairs = &table[..count * 2];
     let low = starts[node];

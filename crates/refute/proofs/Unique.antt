@@ -63,5 +63,6 @@ tested-unique variables formula refutation room p q = answers-unique p q
 
 -- one part for a clause's number: its numbers, and where it lies
 pub clause-unique : {formula refutation : RefT (List ℤ)} {number : ℕ} (p q : RefT (List ℤ)) →
-    ClausePart formula refutation number p → ClausePart formula refutation number q → (now p ≡ now q) × (p .ptr ≡ q .ptr)
+    ClausePart formula refutation number p → ClausePart formula refutation number q → (now p ≡ now q) ×
+    (p .ptr ≡ q .ptr)
 clause-unique p q a b = (a .held ∙ sym (b .held), a .lies ∙ sym (b .lies))

@@ -1,4 +1,5 @@
--- The clauses of two lists by number, each with its 0 as a part of the list that holds it. Interface: parts, ClausePart.
+-- The clauses of two lists by number, each with its 0 as a part of the list that holds it. Interface: parts,
+-- ClausePart.
 use mathlib.Core.Path.{_≡_}
 use mathlib.Core.Bool.{true, false, cond}
 use mathlib.Core.List.{List, [], _∷_, _++_}

@@ -1,6 +1,6 @@
--- Controlling cubes: sets of pin values that fix a gate's output whatever its other pins are. Interface: all of it. That
--- a gate settles by its cubes is a law (proofs/Cubes), and so is that a pair's clauses are those of its gate's cubes
--- (certificate/proofs/Says).
+-- Controlling cubes: sets of pin values that fix a gate's output whatever its other pins are. Interface: all of it.
+-- That a gate settles by its cubes is a law (proofs/Cubes), and so is that a pair's clauses are those of its gate's
+-- cubes (certificate/proofs/Says).
 use mathlib.Core.Bool.{Bool, not, _&&_, _||_, Bool·beq, cond}
 use mathlib.Core.List.{List, [], _∷_, map}
 use Prim.Native.Nat.{ℕ, min}

@@ -1,5 +1,5 @@
--- `certificate::refutes` meets its contract: a building that answers with counts has left its numbers, well formula-front, in
--- the front of the formula slice, and the test is of that front. Assumes nothing.
+-- `certificate::refutes` meets its contract: a building that answers with counts has left its numbers, well
+-- formula-front, in the front of the formula slice, and the test is of that front. Assumes nothing.
 use mathlib.Core.Path.{refl}
 use borrow.Author.Needs.{needs}
 use Rattle.certificate.proofs.Steps.{formula-front, refutes-refused, refutes-tested}

@@ -1,5 +1,5 @@
--- `pairs::fill` meets its contract: what is found and what is marked are all that is asked for, and at each turn a bit, a
--- word or a node is done. Assumes nothing.
+-- `pairs::fill` meets its contract: what is found and what is marked are all that is asked for, and at each turn a
+-- bit, a word or a node is done. Assumes nothing.
 use mathlib.Core.Path.{_≡_, refl, ap}
 use Prim.Native.Nat.{ℕ, _+_, _-_, _*_, _%_, _^_, _≤_, _<_}
 use native.Mathlib.Omega.{arith}

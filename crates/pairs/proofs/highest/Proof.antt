@@ -1,5 +1,5 @@
--- `pairs::highest` meets its contract: the zeros above the highest bit, the bit and the places below it make 64. Assumes
--- nothing.
+-- `pairs::highest` meets its contract: the zeros above the highest bit, the bit and the places below it make 64.
+-- Assumes nothing.
 use native.Mathlib.Omega.{arith}
 use lib.Count.{leading-le, leading-top}
 use Rattle.pairs.proofs.Bits.{highest-of}

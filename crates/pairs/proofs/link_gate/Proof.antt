@@ -152,8 +152,10 @@ loop-again c =
       omega arith,
       simp length-set (here .loop .inv .2),
       simp length-set (here .loop .inv .3),
-      to-more _ (here .loop .inv .4) (omega (arith, room c, given .3, here .loop .inv .3)) (driver-low (c .before .before))
-          (omega (arith, given .1, given .0 .counts .gates-few)) (delay-low c) (c .before .before .before .driver-at .ensures .0)
+      to-more _ (here .loop .inv .4) (omega (arith, room c, given .3, here .loop .inv .3))
+          (driver-low (c .before .before))
+          (omega (arith, given .1, given .0 .counts .gates-few)) (delay-low c)
+          (c .before .before .before .driver-at .ensures .0)
           (c .before .before .delay-at .ensures .0)
           (omega (arith, c .widen .ensures .0)),
     )

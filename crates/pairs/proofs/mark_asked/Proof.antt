@@ -23,7 +23,8 @@ start c = c .before .before .before .before .before .before .before .before .bef
 here : (c : tie.At-loop Inv-loop μ-loop) → 0 < c .loop .at →
     let given = start c .args in
     Here (pairsIn (given .done .now)) (given .file .now) (given .shape) (given .target) (given .f) (given .top)
-    (given .links .now) (c .before .before .before .before .before .mark-output .last .1 .1 .1 .1 .1 .0) (c .loop .marks)
+    (given .links .now) (c .before .before .before .before .before .mark-output .last .1 .1 .1 .1 .1 .0)
+    (c .loop .marks)
     (c .loop .at)
 here c h = walking-here (c .loop .inv .1) h
 
@@ -75,7 +76,13 @@ mark-pin-requires c κs =
       omega (arith, link-gate link _ held, link .gate-small, given .1 .counts .inputs-few),
       omega (arith, link-delay link _ held, link .delay-small),
       given .4,
-      omega (arith, given .5, at .loop .inv .0, at .before .before .before .before .before .mark-output .kept .1 .1 .1 .1 .1 .0),
+      omega (
+        arith,
+        given .5,
+        at .loop .inv .0,
+        at .before .before .before .before .before .mark-output .kept .1 .1 .1
+            .1 .1 .0,
+      ),
     )
 
 loop-less : tie.Need-loop-less Inv-loop μ-loop
@@ -97,7 +104,12 @@ loop-again c =
     )
 
 same-length : tie.Need-same-length Inv-loop μ-loop
-same-length c = omega (arith, c .before .loop .inv .0, c .before .before .before .before .before .before .mark-output .kept .1 .1 .1 .1 .1 .0)
+same-length c = omega (
+  arith,
+  c .before .loop .inv .0,
+  c .before .before .before .before .before .before .mark-output .kept .1 .1 .1 .1
+      .1 .0,
+)
 
 returns : tie.Need-returns Inv-loop μ-loop
 returns c =

@@ -57,7 +57,11 @@ add-pairs-before-3 : tie.Need-add-pairs-before-3 Inv-loop μ-loop
 add-pairs-before-3 c = search needs
 
 pairs-before-requires-2 : tie.Need-pairs-before-requires-2 Inv-loop μ-loop
-pairs-before-requires-2 c κs = (c .before .before .before .pre .0, searching-from _ _ (c .pairs-before .ensures) (omega arith) (sym (pairs-length _)))
+pairs-before-requires-2 c κs = (
+  c .before .before .before .pre .0,
+  searching-from _ _ (c .pairs-before .ensures) (omega arith)
+      (sym (pairs-length _)),
+)
 
 loop-holds : tie.Need-loop-holds Inv-loop μ-loop
 loop-holds c =

@@ -1,5 +1,5 @@
--- `pairs::place` meets its contract: the pair that is tried is the node's, so that its time tells; and the search for the
--- pair's key, among its node's pairs, ends at the pair's place. Assumes nothing.
+-- `pairs::place` meets its contract: the pair that is tried is the node's, so that its time tells; and the search for
+-- the pair's key, among its node's pairs, ends at the pair's place. Assumes nothing.
 use mathlib.Core.Path.{sym, _∙_}
 use mathlib.Core.List.{List}
 use Prim.Native.Nat.{ℕ, _+_, _-_, _*_, _<_}

@@ -93,7 +93,8 @@ zero-rest-u32-requires : tie.Need-zero-rest-u32-requires Inv-loop μ-loop
 zero-rest-u32-requires c κs = omega (arith, c .before .before .before .loop .inv .2 .long)
 
 same-length : tie.Need-same-length Inv-loop μ-loop
-same-length c = omega (arith, long (c .before .before .before .before .before .before), c .before .before .zero-rest-u32 .kept)
+same-length c = omega
+    (arith, long (c .before .before .before .before .before .before), c .before .before .zero-rest-u32 .kept)
 
 returns : tie.Need-returns Inv-loop μ-loop
 returns c =

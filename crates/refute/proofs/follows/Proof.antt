@@ -284,7 +284,8 @@ returns-2 c =
     (p .before .if1 .left)
     (P.hit-ends (p .passes .inv .1)
     (P.passing-hit (list-at k .loop .inv .1) (k .before .before .loop-test .taken) (k .before .list-of .ensures)
-    (P.visiting-hit (read-through (c .before .before)) (read-through (c .before .before) .spoken .none (c .if4 .taken)))))
+    (P.visiting-hit (read-through (c .before .before))
+    (read-through (c .before .before) .spoken .none (c .if4 .taken)))))
 
 same-length-3 :
     tie.Need-same-length-3 Inv-loop3 μ-loop3 Inv-loop2 μ-loop2 Inv-loop μ-loop Inv-passes μ-passes

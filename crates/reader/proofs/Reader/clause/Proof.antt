@@ -126,7 +126,8 @@ module _ {M : Type 1} (𝓤 : URA M) (H : Heap 𝓤) (A : Atoms 𝓤) (W : Given
       ent 𝓤 (ensured 𝓤 H A callee.ended (callee.clauses 𝓤 H A mem run) (κ, tt) (d .formula, (d .at, tt)) tt r)
       (fact 𝓤 (ClauseFound r))
   said r =
-      exE 𝓤 _ (λ ws. snd∗ 𝓤 (sem 𝓤 H A (lasts callee.ended (κ, tt) (d .formula, (d .at, tt)) ws)) (fact 𝓤 (ClauseFound r)))
+      exE 𝓤 _ (λ ws. snd∗ 𝓤 (sem 𝓤 H A (lasts callee.ended (κ, tt) (d .formula, (d .at, tt)) ws))
+      (fact 𝓤 (ClauseFound r)))
 
   exits : (r : RefT (List ℤ)) (u : Val) → ClauseFound r →
       ent 𝓤 (⋆ 𝓤 H A (‵ (R κ .own r (u ∷ [])) ∷ (‵ (flft κ q) ⊛ ‵ ftrue) ∷ ‵ (Own κ d) ∷ [])) (Post u)
