@@ -110,7 +110,7 @@ module _ {l : Lent} {node t : ℕ} where
       }
 
 module _ (l : Lent) (node t : ℕ) where
-  -- what holds of "true outright", "false outright" and each literal of a variable above 0 holds of "late at t"
+  -- what holds of true and of false outright and of each literal of a variable above 0 holds of lateness at t
   late-any : (P : Part ℕ → Type 0) → P sure → P never → ((n : ℕ) → P (literal true (suc n))) → P (lateIn l node t)
   unfolding late variableIn
   late-any P a b c = go (ltb node (l .shape .inputs)) (leb t (getD (l .tops) node 0)) (leb t 0) _
@@ -155,7 +155,7 @@ literal-runs (sure ∷ parts) = literal-runs parts
 literal-runs (never ∷ parts) = literal-runs parts
 literal-runs (literal b x ∷ parts) = ap (λ (l : List Token). wants (b, x) ∷ l) (literal-runs parts)
 
--- "A clause with a true part is left out; a false part is left out of its clause."
+-- a part that is true outright takes its clause with it, one that is false leaves it (rule F14)
 pub clause-run : (parts : List (Part ℕ)) →
     cond (any isSure parts) [] (concatMap partRun parts ++ (ended ∷ [])) ≡ tokensOf (clauseOf parts)
 unfolding clauseOf tokensOf

@@ -99,11 +99,11 @@ pub record Fits (most : ℕ) (at : Emitted) : Type 0 where
 abbrev pub codeRun : ℕ → List Token
 codeRun code = cond (ltb code 2) [] (coded code ∷ [])
 
--- "A node's variable is its number plus 1"
+-- the variable of a node (rule F5)
 abbrev pub nodeIs : ℕ → Bool → Literal
 nodeIs node wanted = (wanted, node + 1)
 
--- what a driver adds, by its node and the code of "driver late", beside a literal of the variable `own`
+-- what a driver adds, by its node and the code of its being late, beside a literal of the variable `own`
 abbrev pub shareRun : Share → ℕ → ℕ → ℕ → List Token
 shareRun (Forced c k) own node late = wants (nodeIs node (not c)) ∷ wants (k, own) ∷ ended ∷ []
 shareRun (Driver c) own node late = wants (nodeIs node c) ∷ []
@@ -116,14 +116,14 @@ abbrev pub sharesRun : Share → ℕ → List ℕ → List ℕ → ℕ → List 
 sharesRun share own nodes lates count =
     concatMap (λ i. shareRun share own (getD nodes i 0) (getD lates i 0)) (upFrom 0 count)
 
--- the clause "head, or something late", by the codes, and whether something is late outright
+-- the clause of a head and of what is late, by the codes, and whether something is late outright
 abbrev pub lateRun : ℕ → ℕ → List ℕ → Bool → List Token
 lateRun head count lates some =
     cond some [] ((codeRun head ++ concatMap (λ i. codeRun (getD lates i 0)) (upFrom 0 count)) ++ (ended ∷ []))
 
 -- ---- what is put for one gate
 
--- "for each pin, driver is not c, gate is k; then driver is c for every pin and gate is not k"
+-- a simple gate (rule F9): two literals a pin, then one clause over all pins
 abbrev pub simpleRun : Bool → Bool → ℕ → List ℕ → List ℕ → ℕ → List Token
 simpleRun c k node nodes lates count =
     ((sharesRun (Forced c k) (node + 1) nodes lates count ++ sharesRun (Driver c) (node + 1) nodes lates count)
@@ -133,7 +133,7 @@ simpleRun c k node nodes lates count =
 abbrev pub three : Literal → Literal → Literal → List Token
 three x y z = wants x ∷ wants y ∷ wants z ∷ ended ∷ []
 
--- "(s, a is d, f is e), (s, a is not d, f is not e), (-s, b is d, f is g), (-s, b is not d, f is not g)"
+-- s chooses between a and b: s, or a is d, or f is e; s, or a is not d, or f is not e; then not s, with b and g
 abbrev pub choiceRun : ℕ → ℕ → ℕ → Bool → Bool → Bool → ℕ → List Token
 choiceRun s a b d e g f =
     three (nodeIs s true) (nodeIs a d) (nodeIs f e)

@@ -1,4 +1,4 @@
--- What serves the code that writes the pairs' clauses: "late at t" by what is lent to it, as one code, and what the
+-- What serves the code that writes the pairs' clauses: lateness by what is lent to it, as one code, and what the
 -- code leans on.
 use mathlib.Core.Path.{_≡_}
 use mathlib.Core.Bool.{Bool, false, not}
@@ -36,7 +36,7 @@ partRun sure = []
 partRun never = []
 partRun (literal b x) = wants (b, x) ∷ []
 
--- ---- "late at t"
+-- ---- lateness
 
 -- what says which node is late when: the counts, the tops of all nodes and the table of pairs
 pub record Lent : Type 0 where
@@ -78,18 +78,18 @@ abbrev pub nodeAt : List ℕ → Shape → Side → ℕ → ℕ
 nodeAt file shape Pins pin = driverAt file shape pin
 nodeAt file shape Outputs position = outputAt file shape position
 
--- and the time: "t less its delay", or t
+-- and the time: less a pin's delay, or as it is
 abbrev pub timeAt : List ℕ → Shape → Side → ℕ → ℕ → ℕ
 timeAt file shape Pins t pin = t - delayAt file shape pin
 timeAt file shape Outputs t position = t
 
--- that a pin's driver is late at t less the pin's delay, "output late at t"
+-- that a pin's driver is late at t less the pin's delay, or an output at t
 abbrev pub lateAt : List ℕ → Lent → Side → ℕ → ℕ → Part ℕ
 lateAt file l side t entry = lateIn l (nodeAt file (l .shape) side entry) (timeAt file (l .shape) side t entry)
 
 -- ---- what is put
 
--- "driver late at t less its delay"
+-- that the pin's driver is late at t less the pin's delay
 abbrev pub pinLate : Lent → ℕ → Pin → Part ℕ
 pinLate l t p = lateIn l (p .driver) (t - p .delay)
 
@@ -185,12 +185,12 @@ pub record PlaceFound (table : List ℕ) (node t place : ℕ) : Type 0 where
   pub is : place ≡ pairPlace node t (pairsIn table)
   pub below : place < length table / 2
 
--- "node late at t" as a code
+-- that a node is late at t, as a code
 pub record LateCode (l : Lent) (node t code : ℕ) : Type 0 where
   pub is : code ≡ partCode (lateIn l node t)
   pub small : code < codeBound
 
--- the entries were read: their nodes, the codes of "late", and whether some is late outright
+-- the entries were read: their nodes, the codes of their lateness, and whether some is late outright
 pub record Reads (file : List ℕ) (l : Lent) (side : Side) (first count t : ℕ) (nodes lates : List ℕ) (some : Bool) :
     Type 0 where
   pub nodes-are : take count nodes ≡ map (nodeAt file (l .shape) side) (upFrom first count)

@@ -91,7 +91,7 @@ pub struct Moment {
     pub time: usize,
 }
 
-// What is known of a node that is asked for: its number, and "node late" as a code.
+// What is known of a node that is asked for: its number, and that it is late, as a code.
 pub struct Asked {
     pub node: usize,
     pub late: usize,
@@ -103,8 +103,9 @@ pub enum Side {
     Outputs,
 }
 
-// What each driver of a gate adds, beside a variable of the gate's or the pair's own: the clause "driver is not c, own
-// is k"; the literal "driver is c"; the part "driver late"; the clause "-own, driver late, driver is not c".
+// What each driver of a gate adds, beside a variable of the gate's or the pair's own: the clause that its
+// driver is not at c or the gate is k; the literal that it is at c; the part that it is late; the clause that the pair is
+// not, or the driver is late, or not at c.
 pub enum Share {
     Forced { c: bool, k: bool },
     Driver(bool),
@@ -126,7 +127,7 @@ fn put_code(formula: &mut [i32], at: Emitted, code: usize) -> Emitted
     }
 }
 
-// One literal more: "variable is wanted".
+// One literal more: a variable, as it is wanted.
 fn put_literal(formula: &mut [i32], at: Emitted, variable: usize, wanted: bool) -> Emitted
     requires { ⌜ Fits 1 at × (variable < variableBound) ⌝ }
     ensures { λ r. ⌜ Emits 1 (wants (wanted, variable) ∷ []) (now (formula .entry)) at (now (formula .exit)) r ⌝ }
@@ -137,7 +138,7 @@ fn put_literal(formula: &mut [i32], at: Emitted, variable: usize, wanted: bool) 
     put_code(formula, at, variable * 2 + 1)
 }
 
-// One literal more: "node is wanted".
+// One literal more: a node, as it is wanted.
 fn put_node(formula: &mut [i32], at: Emitted, node: usize, wanted: bool) -> Emitted
     requires { ⌜ Fits 1 at × (node < 65536) ⌝ }
     ensures { λ r. ⌜ Emits 1 (wants (nodeIs node wanted) ∷ []) (now (formula .entry)) at (now (formula .exit)) r ⌝ }
@@ -403,7 +404,7 @@ fn read_asked(
     sure
 }
 
-// "Head, or something late", of what was read, where `head` is a literal's code or 0 for none; left out where something
+// A head, or something late, of what was read, where `head` is a literal's code or 0 for none; left out where something
 // is late outright.
 fn late_clause(
     head: usize,
@@ -433,7 +434,7 @@ fn late_clause(
 
 // ---- 1. each gate
 
-// A clause of a gate f, one of whose pins chooses and another is chosen: "pin x is a, pin y is b, f is c".
+// A clause of a gate f, one of whose pins chooses and another is chosen: pin x is a, or pin y is b, or f is c.
 fn choice_clause(
     nodes: &[u16],
     x: usize,
@@ -457,9 +458,9 @@ fn choice_clause(
     put_end(formula, three)
 }
 
-// A gate f whose first pin s chooses between a, its second, and b, its last: "(s, a is d, f is e), (s, a is not d, f is
-// not e), (-s, b is d, f is g), (-s, b is not d, f is not g)". A multiplexer chooses between two pins, a parity gate
-// between a pin and its opposite.
+// A gate f whose first pin s chooses between a, its second, and b, its last. Four clauses: s, or a is d, or f is e; s, or a
+// is not d, or f is not e; then the same two of not s, with b for a and g for e. A multiplexer chooses between two pins, a
+// parity gate between a pin and its opposite.
 fn choice_clauses(
     nodes: &[u16],
     last: usize,
@@ -689,7 +690,7 @@ fn pair_at(table: &[u32], k: usize) -> Moment
     }
 }
 
-// "Pairs take N+1, N+2 and on": the variable of pair k.
+// The variable of pair k (rule F5).
 fn pair_variable(shape: Shape, k: usize) -> usize
     requires { ⌜ (shape .inputs + shape .gates ≤ 512) × (k < 65536) ⌝ }
     ensures { λ r. ⌜ r ≡ shape .inputs + shape .gates + k + 1 ⌝ }
@@ -740,7 +741,7 @@ fn all_pairs(
 
 // ---- 3. some output is late
 
-// "Some output is late at T, outputs in order."
+// The clause of the outputs (rule F13).
 fn output_clause(
     file: &[u8],
     shape: Shape,

@@ -12,7 +12,7 @@ use Rattle.pairs.specs.Pairs.{flatPairs, pairsFor, tableHolds}
 use Rattle.pairs.specs.Rising.{Before, Rising}
 use Rattle.pairs.specs.Table.{Precede}
 
--- a lent slice of so many numbers is the tops of all nodes, and zeros in "whatever part wasn't needed"
+-- a lent slice of so many numbers is the tops of all nodes, and zeros in all of the rest
 pub record Topped (file : List ℕ) (shape : Shape) (room : ℕ) (tops : List ℕ) : Type 0 where
   pub is :
       tops
