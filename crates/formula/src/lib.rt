@@ -103,9 +103,9 @@ pub enum Side {
     Outputs,
 }
 
-// What each driver of a gate adds, beside a variable of the gate's or the pair's own: the clause that its
-// driver is not at c or the gate is k; the literal that it is at c; the part that it is late; the clause that the pair is
-// not, or the driver is late, or not at c.
+// What each driver of a gate adds, beside a variable of the gate's or the pair's own: the clause that its driver is
+// not at c or the gate is k; the literal that it is at c; the part that it is late; the clause that the pair is not,
+// or the driver is late, or not at c.
 pub enum Share {
     Forced { c: bool, k: bool },
     Driver(bool),
@@ -458,9 +458,9 @@ fn choice_clause(
     put_end(formula, three)
 }
 
-// A gate f whose first pin s chooses between a, its second, and b, its last. Four clauses: s, or a is d, or f is e; s, or a
-// is not d, or f is not e; then the same two of not s, with b for a and g for e. A multiplexer chooses between two pins, a
-// parity gate between a pin and its opposite.
+// A gate f whose first pin s chooses between a, its second, and b, its last. Four clauses: s, or a is d, or f is e;
+// s, or a is not d, or f is not e; then the same two of not s, with b for a and g for e. A multiplexer chooses
+// between two pins, a parity gate between a pin and its opposite.
 fn choice_clauses(
     nodes: &[u16],
     last: usize,
