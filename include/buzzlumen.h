@@ -15,14 +15,13 @@
  *   memory that was never written holds none.
  * - A slice lent for writing has no byte in common with another slice of the same call. Slices to read may have.
  * - Until the call returns, no other thread, process or mapping writes to any of the slices.
- * - There is room for 65,536 bytes of stack; no call takes more, whatever it is given. judge and build take most, some
- *   60,000.
+ * - There is room for 98,304 bytes of stack; no call takes more, whatever it is given. judge and build take most.
  * - The C library's memset can be linked: it is the only function that is called.
  * THREADS. Nothing is kept from one call to the next: no global data, no allocation, no pointer that outlives the call.
  * So any number of threads may be in these functions at a time, each lending slices of its own.
  * TIME. Every call ends; how soon, no proof says. A call writes all that it is lent, so its time grows with these
- * lengths, and besides: evaluate with gates and pins; build with gates times pins, and with pairs times the pins that
- * one node drives; check with the refutation's clauses times the numbers stored so far times the passes over them, of
+ * lengths, and besides: evaluate with gates and pins; build with pairs times the pins of their gates, and with the tops
+ * of all gates; check with the refutation's clauses times the numbers stored so far times the passes over them, of
  * which there are at most variables + 1 for a clause; judge with all of these. docs/PERFORMANCE.md has figures.
  *
  * THE NETLIST FILE is read from its end; a number of several bytes has its lowest byte first. The last 14 bytes: back

@@ -80,6 +80,10 @@ pub record LastWord (marks : List ℕ) (from r : ℕ) : Type 0 where
   pub empty : (k : ℕ) → r < k → k ≤ from → getD marks k 0 ≡ 0
   pub first : getD marks r 0 ≡ 0 → r ≡ 0
 
+-- words beyond this hold no mark: 64 times a word, the latest of them 447,552
+abbrev pub mostWords : ℕ
+mostWords = 6994
+
 -- ---- what asks for node f at t, where the pairs l are known
 
 -- a property, from 1 to a top
@@ -121,6 +125,10 @@ abbrev pub AsksAll : List (ℕ × ℕ) → List ℕ → Shape → ℕ → ℕ �
 AsksAll l file shape target f t = Asks (Drives file shape (shape .gates) f) l file shape target f t
 
 -- ---- the pins that a node drives, in chains of links
+
+-- no netlist has more pins: 448 gates, 8 pins each
+abbrev pub mostPins : ℕ
+mostPins = 3584
 
 -- link number e, counted from 1, holds a pin's gate and delay and the number of the next link
 pub record Link (links : List ℕ) (e next : ℕ) (x : ℕ × ℕ) : Type 0 where

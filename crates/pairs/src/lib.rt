@@ -22,12 +22,14 @@ ghost use Rattle.pairs.specs.Table.{
   Adds,
   Highest,
   LastWord,
+  mostWords,
   Within,
   Drives,
   Chains,
   PinAsks,
   OutputAsks,
   AsksAll,
+  mostPins,
   Kept,
 };
 ghost use Rattle.pairs.specs.Promise.{Topped, Tops, pairsAt, Held, Lists, Findable, Bounds, Begins};
@@ -195,7 +197,7 @@ fn link_gate(
     from: usize,
 ) -> usize
     requires { ⌜ Holds (now file) shape × (number < shape .gates) × (shape .inputs + shape .gates ≤ length (now heads))
-        × (3584 ≤ length (now links)) × (from ≤ number * 8)
+        × (mostPins ≤ length (now links)) × (from ≤ number * 8)
         × Chains (Drives (now file) shape number) (now heads) (now links) from ⌝ }
     ensures { λ r. ⌜ (r ≤ number * 8 + 8)
         × Chains (Drives (now (file .entry)) shape (number + 1)) (now (heads .exit)) (now (links .exit)) r ⌝ }
@@ -220,9 +222,9 @@ fn link_gate(
 // All pins, linked by what drives them.
 fn link(file: &[u8], shape: Shape, heads: &mut [u32], links: &mut [u32])
     requires { ⌜ Holds (now file) shape × (shape .inputs + shape .gates ≤ length (now heads))
-        × (3584 ≤ length (now links)) × ((f : ℕ) → getD (now heads) f 0 ≡ 0) ⌝ }
+        × (mostPins ≤ length (now links)) × ((f : ℕ) → getD (now heads) f 0 ≡ 0) ⌝ }
     ensures { λ _. ⌜ Chains (Drives (now (file .entry)) shape (shape .gates)) (now (heads .exit)) (now (links .exit))
-        3584 ⌝ }
+        mostPins ⌝ }
 {
     let mut n = 0;
     let mut i = 0;
@@ -268,7 +270,7 @@ fn mark_asked(
 )
     requires { ⌜ Sorted (pairsIn (now done)) × Holds (now file) shape × (f < shape .inputs + shape .gates)
         × (shape .inputs + shape .gates ≤ length (now heads)) × (top < farTime) × (top / 64 < length (now marks))
-        × Chains (Drives (now file) shape (shape .gates)) (now heads) (now links) 3584 ⌝ }
+        × Chains (Drives (now file) shape (shape .gates)) (now heads) (now links) mostPins ⌝ }
     ensures { λ _. ⌜ Adds (now (marks .entry))
         (Within top (AsksAll (pairsIn (now (done .entry))) (now (file .entry)) shape target f))
         (now (marks .exit)) ⌝ }
@@ -336,8 +338,8 @@ fn fill(
 ) -> Filled
     requires { ⌜ Holds (now file) shape × Tops (now file) shape (now tops)
         × (length (now table) / 2 * 2 ≡ length (now table)) × ((t : ℕ) → Marked (now marks) t → ⊥)
-        × (6994 < length (now marks)) × (shape .inputs + shape .gates ≤ length (now heads))
-        × Chains (Drives (now file) shape (shape .gates)) (now heads) (now links) 3584 ⌝ }
+        × (mostWords < length (now marks)) × (shape .inputs + shape .gates ≤ length (now heads))
+        × Chains (Drives (now file) shape (shape .gates)) (now heads) (now links) mostPins ⌝ }
     ensures { λ r. ⌜ Kept (pairsAt (now (file .entry)) shape target) (length (now (table .entry)) / 2)
         (now (table .exit)) r ⌝ }
 {
