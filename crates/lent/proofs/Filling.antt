@@ -54,3 +54,8 @@ module _ {A : Type 0} {whole : List A} where
     -- all entries
     pub filled-ends : length whole ≤ n → now ≡ whole ++ drop n before
     filled-ends h = b .is ∙ ap (λ (t : List A). t ++ drop n before) (take-all n whole h)
+
+    pub filled-whole : length whole ≤ n → now ≡ whole ++ drop (length whole) before
+    filled-whole h =
+        let e : n ≡ length whole = omega (arith, b .upto) in
+        filled-ends h ∙ ap (λ (k : ℕ). whole ++ drop k before) e
