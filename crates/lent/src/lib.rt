@@ -5,8 +5,9 @@ ghost use mathlib.Core.Path.{_≡_};
 ghost use mathlib.Core.List.{_++_};
 ghost use Prim.Native.Nat.{_+_, _-_, _≤_, _<_};
 ghost use lib.IntN.{pos};
-ghost use lib.ListN.{length, take, drop, replicate};
+ghost use lib.ListN.{length, take, replicate};
 ghost use Rattle.lent.specs.Bytes.{twoBytes, fourBytes};
+ghost use Rattle.lent.specs.Copied.{Copied};
 
 // A byte as a number.
 pub fn wide(x: u8) -> usize
@@ -109,9 +110,7 @@ pub fn zero_i32(slice: &mut [i32])
 // One slice to the front of another; what stands behind stays.
 pub fn copy_u8(from: &[u8], slice: &mut [u8])
     requires { ⌜ length (now from) ≤ length (now slice) ⌝ }
-    ensures { λ _. ⌜
-        now (slice .exit) ≡ now (from .entry) ++ drop (length (now (from .entry))) (now (slice .entry))
-        ⌝ }
+    ensures { λ _. ⌜ Copied (now (from .entry)) (now (slice .entry)) (now (slice .exit)) ⌝ }
 {
     let mut i = 0;
     while i < from.len() {
@@ -123,9 +122,7 @@ pub fn copy_u8(from: &[u8], slice: &mut [u8])
 // The same for 32-bit numbers.
 pub fn copy_u32(from: &[u32], slice: &mut [u32])
     requires { ⌜ length (now from) ≤ length (now slice) ⌝ }
-    ensures { λ _. ⌜
-        now (slice .exit) ≡ now (from .entry) ++ drop (length (now (from .entry))) (now (slice .entry))
-        ⌝ }
+    ensures { λ _. ⌜ Copied (now (from .entry)) (now (slice .entry)) (now (slice .exit)) ⌝ }
 {
     let mut i = 0;
     while i < from.len() {
