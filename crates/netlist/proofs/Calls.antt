@@ -1,23 +1,19 @@
 -- A call on any bytes and any arrivals: what is accepted leaves it to the call's own rows over its circuit, and what is
 -- refused ends it. Then a list that must have so many entries, none over a bound (listRows). Assumes nothing.
-use mathlib.Core.Path.{_≡_, refl, sym, ap, _∙_, subst}
-use mathlib.Core.Bool.{Bool, true, false, not}
+use mathlib.Core.Path.{_≡_, sym, ap, _∙_}
+use mathlib.Core.Bool.{not}
 use mathlib.Core.List.{List, [], _∷_, _++_}
-use mathlib.Core.Logic.{_⊎_, inl, inr}
-use Prim.Native.Nat.{ℕ, _≤_, _<_}
-use native.Mathlib.Omega.{arith}
-use lib.Dec.{T, ltb, eqb, ltb→lt, nltb→le, not-T}
-use lib.ListN.{length, getD, List·getD-eq-default}
-use borrow.Author.Tests.{lt-ltb, le-ltb, ltb-false, eqb-true}
+use Prim.Native.Nat.{ℕ, _≤_}
+use lib.Dec.{ltb, eqb}
+use lib.ListN.{length}
+use borrow.Author.Tests.{ltb-false, eqb-true}
 use Rattle.refusal.specs.declared.Refusal.{Refusal}
 use Rattle.refusal.specs.declared.Refusal.the-variants.{Arrival}
 use Rattle.refusal.specs.declared.Checked.{Checked}
 use Rattle.refusal.specs.declared.Checked.the-variants.{Passes, Refused as Fails}
 use Rattle.refusal.specs.Rows.{Row, checked, unlessRefused}
 use Rattle.refusal.proofs.Rows.{refused-first, passed-first, first-passes, rest-passes, passed-by}
-use Rattle.basics.proofs.Truth.{decide}
 use Rattle.netlist.specs.declared.Shape.{Shape}
-use Rattle.netlist.specs.declared.Opened.{Opened}
 use Rattle.netlist.specs.declared.Opened.the-variants.{Accepted, Refused}
 use Rattle.netlist.specs.Netlist.{Circuit}
 use Rattle.netlist.specs.File.{shapeOf, circuitAt, circuitOf}
@@ -33,7 +29,7 @@ use Rattle.netlist.specs.Open.{
   rowsOver,
   callOver,
 }
-use Rattle.netlist.specs.Holds.{Holds, Arrived}
+use Rattle.netlist.specs.Holds.{Arrived, Given}
 use Rattle.netlist.proofs.FirstWrong.{within-bound}
 use Rattle.netlist.proofs.TableOrder.{
   answer,
@@ -104,8 +100,8 @@ module _ (file arrivals : List ℕ) where
 
   -- an accepted file and its arrivals are all that later reads lean on
   pub accepted : {shape : Shape} → openCircuitOf file arrivals ≡ Accepted shape →
-      Holds file shape × Arrived shape arrivals
-  accepted {shape} e = (holds file shape (accepted-file e), arrived e)
+      Given file shape arrivals
+  accepted {shape} e = record { holds = holds file shape (accepted-file e); arrived = arrived e }
 
   -- the answer by the file's own and the arrivals' own
   pub by-file : {refusal : Refusal} → openOf file ≡ Refused refusal → Refused refusal ≡ openCircuitOf file arrivals

@@ -1,5 +1,5 @@
 -- What every later read of an accepted file, and of its inputs' arrivals, may lean on. Interface: Holds, Tables,
--- Arrived. InRange and Framed serve `open`.
+-- Arrived, Given. InRange and Framed serve `open`.
 use mathlib.Core.Path.{_≡_}
 use mathlib.Core.Bool.{false}
 use mathlib.Core.List.{List}
@@ -59,3 +59,8 @@ pub record Holds (file : List ℕ) (shape : Shape) : Type 0 where
 pub record Arrived (shape : Shape) (arrivals : List ℕ) : Type 0 where
   pub long : length arrivals ≡ shape .inputs
   pub early : (input : ℕ) → getD arrivals input 0 ≤ latestArrival
+
+-- both
+pub record Given (file : List ℕ) (shape : Shape) (arrivals : List ℕ) : Type 0 where
+  pub holds : Holds file shape
+  pub arrived : Arrived shape arrivals

@@ -25,11 +25,11 @@ use Rattle.netlist.specs.declared.Gate.{Gate}
 use Rattle.netlist.specs.Netlist.{Cell, Pin, nodes, takes}
 use Rattle.netlist.specs.Kinds.{bit}
 use Rattle.netlist.specs.File.{gateAt, cellAt, cellOf, netlistAt, circuitAt, pinsFrom, firstAt, countAt}
-use Rattle.netlist.specs.Holds.{Holds, Arrived}
+use Rattle.netlist.specs.Holds.{Holds, Arrived, Given}
 use Rattle.netlist.proofs.Entries.{node-has, node-count, net-inputs}
 use Rattle.netlist.proofs.GateRead.{gate-fields, gate-within, gate-takes}
 use Rattle.settle.specs.declared.Signal.{Signal}
-use Rattle.settle.specs.Settling.{readyAt, valuesOf, valueOf, timesOf, timeOf}
+use Rattle.settle.specs.Settling.{readyAt, valuesOf, valueOf, timesOf, timeOf, topOf}
 use Rattle.settle.specs.Promise.{bits}
 use Rattle.settle.specs.Steps.{latest, pinValue, pinReady, gateSignal, Wired, Begun, Done}
 use Rattle.settle.proofs.Argument.{settles-cong, gateValue-cong}
@@ -41,6 +41,7 @@ use Rattle.settle.proofs.Nodes.{
   times-length,
   values-begin,
   times-begin,
+  tops-small,
   times-small,
 }
 use Rattle.lent.proofs.Filling.{Filled, filled-starts, filled-done, filled-length, filled-more, filled-ends}
@@ -82,6 +83,12 @@ allTimes file shape arrivals vector = timesOf (circuitAt file shape arrivals) ve
 pub net-arrives : (file : List ℕ) {shape : Shape} {arrivals : List ℕ} → Arrived shape arrivals →
     Arrives (circuitAt file shape arrivals)
 net-arrives file {shape} a = a .long ∙ sym (net-inputs file shape)
+
+-- so that no top is too late
+pub tops-early : {file : List ℕ} {shape : Shape} {arrivals : List ℕ} → Given file shape arrivals → (n : ℕ) →
+    topOf (circuitAt file shape arrivals) n ≤ latest
+tops-early {file} {shape} {arrivals} g n =
+    tops-small (circuitAt file shape arrivals) (g .holds .valid) (net-arrives file (g .arrived)) (g .arrived .early) n
 
 module _ {file : List ℕ} {shape : Shape} {arrivals : List ℕ} (h : Holds file shape) (at : Arrived shape arrivals)
     (vector : List Bool) (long : length vector ≡ shape .inputs) where

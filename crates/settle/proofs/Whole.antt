@@ -24,7 +24,7 @@ use Rattle.lent.proofs.Filling.{copied-front, copied-behind, copied-length}
 use Rattle.netlist.specs.declared.Shape.{Shape}
 use Rattle.netlist.specs.Kinds.{bit}
 use Rattle.netlist.specs.File.{netlistAt, circuitAt, outputAt}
-use Rattle.netlist.specs.Holds.{Holds, Arrived}
+use Rattle.netlist.specs.Holds.{Holds, Arrived, Given}
 use Rattle.netlist.proofs.Entries.{outputs-from, outputs-done, node-count}
 use Rattle.netlist.proofs.Valid.{valid-outputs}
 use Rattle.settle.specs.declared.Settled.the-variants.{At}
@@ -134,7 +134,7 @@ zeroed whole before now after n room w r l e f =
 
 -- all nodes, the circuit's time and zeros are the settled evaluation
 pub settled-is : {file : List ℕ} {shape : Shape} {arrivals vector values₀ times₀ values times : List ℕ} →
-    Holds file shape → Arrived shape arrivals → Usable shape vector (length values₀) (length times₀) →
+    Given file shape arrivals → Usable shape vector (length values₀) (length times₀) →
     Done file shape arrivals (bits vector) values₀ times₀ values times →
     (time : ℕ) (valuesAfter timesAfter : List ℕ) →
     time ≡ last (λ node. getD times node 0) (netlistAt file shape .outputs) →
@@ -144,18 +144,18 @@ pub settled-is : {file : List ℕ} {shape : Shape} {arrivals vector values₀ ti
     ≡ take (shape .inputs + shape .gates) times ++ replicate (length times - (shape .inputs + shape .gates)) 0 →
     Meets (settled (circuitAt file shape arrivals) vector (length values₀) (length times₀)) (At time) valuesAfter timesAfter
 unfolding settled
-settled-is {file} {shape} {arrivals} {vector} {values₀} {times₀} {values} {times} h a u d time valuesAfter timesAfter t v w
+settled-is {file} {shape} {arrivals} {vector} {values₀} {times₀} {values} {times} given u d time valuesAfter timesAfter t v w
     =
     let long : length (bits vector) ≡ shape .inputs = length-map vector (λ byte. eqb byte 1) ∙ u .long in
-    let v-long = all-values-length h a (bits vector) long in
-    let t-long = all-times-length h a (bits vector) long in
+    let v-long = all-values-length (given .holds) (given .arrived) (bits vector) long in
+    let t-long = all-times-length (given .holds) (given .arrived) (bits vector) long in
     let nodes = sym (node-count file shape) in
     record {
       answer-is =
           ap At
           (t
           ∙ ap (λ (l : List ℕ). last (λ node. getD l node 0) (netlistAt file shape .outputs)) (d .times-are)
-          ∙ circuit-is h arrivals (bits vector) (drop (shape .inputs + shape .gates) times₀) t-long);
+          ∙ circuit-is (given .holds) arrivals (bits vector) (drop (shape .inputs + shape .gates) times₀) t-long);
       values-are =
           zeroed (allValues file shape (bits vector)) values₀ values valuesAfter _ _ v-long refl (u .values-room)
           (d .values-are) v

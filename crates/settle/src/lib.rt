@@ -13,7 +13,7 @@ ghost use Rattle.netlist.specs.Kinds.{bit};
 ghost use Rattle.netlist.specs.Netlist.{takes};
 ghost use Rattle.netlist.specs.File.{pinAt, netlistAt, circuitAt, pinsFrom};
 ghost use Rattle.netlist.specs.Open.{firstWrong};
-ghost use Rattle.netlist.specs.Holds.{Holds, Arrived};
+ghost use Rattle.netlist.specs.Holds.{Holds, Given};
 ghost use Rattle.netlist.specs.declared.Kind.the-variants.{Simple, Parity, Mux};
 ghost use Rattle.settle.specs.Settling.{last};
 ghost use Rattle.refusal.specs.Rows.{checked};
@@ -240,7 +240,7 @@ fn settle_nodes(
     times: &mut [u32],
 )
     requires { ⌜
-        Holds (now file) shape × Arrived shape (now arrivals)
+        Given (now file) shape (now arrivals)
         × Usable shape (now vector) (length (now values)) (length (now times)) ⌝ }
     ensures { λ _. ⌜
         Done (now (file .entry)) shape (now (arrivals .entry)) (bits (now (vector .entry)))
@@ -278,7 +278,7 @@ fn settle_all(
     times: &mut [u32],
 ) -> Settled
     requires { ⌜
-        Holds (now file) shape × Arrived shape (now arrivals)
+        Given (now file) shape (now arrivals)
         × Usable shape (now vector) (length (now values)) (length (now times)) ⌝ }
     ensures { λ r. ⌜ Meets (settled (circuitAt (now (file .entry)) shape (now (arrivals .entry)))
         (now (vector .entry)) (length (now (values .entry))) (length (now (times .entry)))) r
@@ -352,7 +352,7 @@ pub fn evaluate_accepted(
     values: &mut [u8],
     times: &mut [u32],
 ) -> Settled
-    requires { ⌜ Holds (now file) shape × Arrived shape (now arrivals) ⌝ }
+    requires { ⌜ Given (now file) shape (now arrivals) ⌝ }
     ensures { λ r. ⌜ Meets (evaluationOf (circuitAt (now (file .entry)) shape (now (arrivals .entry)))
         (now (vector .entry)) (length (now (values .entry))) (length (now (times .entry)))) r
         (now (values .exit)) (now (times .exit)) ⌝ }

@@ -20,8 +20,7 @@ settle-all-requires c κs =
     let told = c .before .before in
     let check = told .before .before in
     let s = check .before .before .before .before .before .before .before in (
-      s .pre .0,
-      s .pre .1,
+      s .pre,
       L.usable (s .args .shape) (s .args .vector .now) (length (s .args .values .now)) (length (s .args .times .now))
           (check .check-given .ensures) (told .enum-told .given .1),
     )

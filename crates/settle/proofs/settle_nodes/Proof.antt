@@ -6,19 +6,19 @@ use Rattle.settle.proofs.settle_nodes.Statement.{statement}
 use Rattle.settle.proofs.settle_nodes.Tie as tie
 
 copy-u8-requires : tie.Need-copy-u8-requires
-copy-u8-requires c κs = let u = c .before .before .before .before .before .before .pre .2 in omega (arith, u .long, u .values-room)
+copy-u8-requires c κs = let u = c .before .before .before .before .before .before .pre .1 in omega (arith, u .long, u .values-room)
 
 copy-u32-requires : tie.Need-copy-u32-requires
 copy-u32-requires c κs =
     let s = c .before .before .before .before .before .before .before .before .before .before in
-    omega (arith, s .pre .1 .long, s .pre .2 .times-room)
+    omega (arith, s .pre .0 .arrived .long, s .pre .1 .times-room)
 
 settle-gates-requires : tie.Need-settle-gates-requires
 settle-gates-requires c κs =
     let times = c .before .before .before .before in
     let values = times .before .before .before .before in
     let s = values .before .before .before .before .before .before .before in
-    (s .pre .0, L.begun (values .copy-u8 .ensures) (times .copy-u32 .ensures) (s .pre .1) (s .pre .2))
+    (s .pre .0 .holds, L.begun (values .copy-u8 .ensures) (times .copy-u32 .ensures) (s .pre .0 .arrived) (s .pre .1))
 
 same-length : tie.Need-same-length
 same-length c = search needs
@@ -32,7 +32,7 @@ returns c =
     let times = gates .before .before .before .before .before in
     let values = times .before .before .before .before in
     let s = values .before .before .before .before .before .before .before in
-    L.all-nodes (values .copy-u8 .ensures) (times .copy-u32 .ensures) (s .pre .1) (s .pre .2)
+    L.all-nodes (values .copy-u8 .ensures) (times .copy-u32 .ensures) (s .pre .0 .arrived) (s .pre .1)
     (gates .settle-gates .ensures)
 
 pub settle-nodes-spec : {M : Type 1} → statement M
