@@ -23,7 +23,7 @@ use lib.ListN.{
   getD-replicate,
   List·getD-append,
 }
-use lib.Seq.{length-take-le, take-at, getD-take, getD-set-same, getD-set-other, ext-getD}
+use lib.Seq.{length-take-le, take-at, take-append-le, getD-take, getD-set-same, getD-set-other, ext-getD}
 use Rattle.lent.specs.Copied.{Copied}
 use Rattle.lent.proofs.Filling.{copied-length}
 use Rattle.netlist.specs.declared.Shape.{Shape}
@@ -186,6 +186,22 @@ module _ {file : List ℕ} {shape : Shape} {arrivals : List ℕ} (given : Given 
             ∙ take-at (topsOf (circuitAt file shape arrivals)) (replicate (room - n) 0) n
             (tops-length (circuitAt file shape arrivals) arrives ∙ node-count file shape);
       }
+
+  -- and so with the arrivals
+  pub topped-arrivals : {room : ℕ} {tops : List ℕ} → Topped file shape arrivals room tops →
+      take (shape .inputs) tops ≡ arrivals
+  topped-arrivals {room} w =
+      let n = shape .inputs + shape .gates in
+      let long = tops-length (circuitAt file shape arrivals) arrives ∙ node-count file shape in
+      ap (take (shape .inputs)) (w .is)
+      ∙ take-append-le (shape .inputs) (topsOf (circuitAt file shape arrivals)) (replicate (room - n) 0) (omega arith)
+      ∙ ap (λ (k : ℕ). take k (topsOf (circuitAt file shape arrivals))) (sym (given .arrived .long))
+      ∙ tops-begin (circuitAt file shape arrivals)
+
+  -- which can be read off the tops again
+  pub topped-given : {room : ℕ} {tops : List ℕ} → Topped file shape arrivals room tops →
+      Given file shape (take (shape .inputs) tops) × Tops file shape (take (shape .inputs) tops) tops
+  topped-given w = rw (topped-arrivals w) (given, topped-tops w)
 
   -- what is read at a node's number is its top, and small
   pub top-read : {tops : List ℕ} (f x : ℕ) → Tops file shape arrivals tops → f < shape .inputs + shape .gates →
