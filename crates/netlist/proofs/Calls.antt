@@ -79,6 +79,12 @@ module _ (file arrivals : List ℕ) where
   unfolding openCircuitOf
   rejected-both e = answer-refuses (shapeOf file) (circuitRows file arrivals) e
 
+  -- what passes them is accepted
+  pub passed-both : checked (circuitRows file arrivals) ≡ Passes →
+      openCircuitOf file arrivals ≡ Accepted (shapeOf file)
+  unfolding openCircuitOf
+  passed-both e = ap (λ (c : Checked). unlessRefused c Refused (Accepted (shapeOf file))) e
+
   -- the file by itself is accepted
   pub accepted-file : {shape : Shape} → openCircuitOf file arrivals ≡ Accepted shape → openOf file ≡ Accepted shape
   accepted-file e =
