@@ -33,7 +33,7 @@ use Rattle.netlist.specs.Open.{
   callOver,
 }
 use Rattle.netlist.specs.Holds.{Arrived, Given}
-use Rattle.netlist.proofs.FirstWrong.{within-bound}
+use Rattle.netlist.proofs.FirstWrong.{first-none, first-later, within-bound}
 use Rattle.netlist.proofs.TableOrder.{
   answer,
   answer-accepts,
@@ -171,9 +171,9 @@ module _ (file arrivals : List ℕ) where
 
 -- as many zeros as there are inputs pass row 16
 zeros-right : (most n : ℕ) → firstWrong (ltb most) (replicate n 0) ≡ n
-unfolding firstWrong
-zeros-right most zero = refl
-zeros-right most (suc n) = ap suc (zeros-right most n)
+zeros-right most zero = first-none (ltb most)
+zeros-right most (suc n) =
+    first-later (ltb most) 0 (replicate n 0) (le-ltb most 0 (omega arith)) ∙ ap suc (zeros-right most n)
 
 zeros-pass : (n : ℕ) → checked (arrivalRows n (replicate n 0)) ≡ Passes
 unfolding arrivalRows
