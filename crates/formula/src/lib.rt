@@ -105,12 +105,13 @@ pub enum Side {
 
 // What each driver of a gate adds, beside a variable of the gate's or the pair's own: the clause that its driver is
 // not at c or the gate is k; the literal that it is at c; the part that it is late; the clause that the pair is not,
-// or the driver is late, or not at c.
+// or the driver is late, or not at c. The variants hold no c and k, which are passed beside: so the compiler makes a
+// loop of its own for each share.
 pub enum Share {
-    Forced { c: bool, k: bool },
-    Driver(bool),
+    Forced,
+    Driver,
     Late,
-    Control(bool),
+    Control,
 }
 
 // ---- numbers, one after the other
@@ -146,15 +147,15 @@ fn put_node(formula: &mut [i32], at: Emitted, node: usize, wanted: bool) -> Emit
     put_literal(formula, at, node + 1, wanted)
 }
 
-// A part of a clause; a false part is left out.
-fn put_part(formula: &mut [i32], at: Emitted, code: usize) -> Emitted
+// A part of a clause, as it is wanted: twice its variable; a false part, which has none, is left out.
+fn put_part(formula: &mut [i32], at: Emitted, code: usize, wanted: bool) -> Emitted
     requires { ⌜ Fits 1 at × (code < codeBound) ⌝ }
-    ensures { λ r. ⌜ Emits 1 (codeRun code) (now (formula .entry)) at (now (formula .exit)) r ⌝ }
+    ensures { λ r. ⌜ Emits 1 (codeRun wanted code) (now (formula .entry)) at (now (formula .exit)) r ⌝ }
 {
     if code < 2 {
         return at;
     }
-    put_code(formula, at, code)
+    put_literal(formula, at, code / 2, wanted)
 }
 
 // The 0 that ends a clause.
@@ -203,6 +204,8 @@ fn asked_at(nodes: &[u16], lates: &[u32], i: usize) -> Asked
 // What one driver adds. A control clause is left out where its driver is late outright.
 fn put_share(
     share: Share,
+    c: bool,
+    k: bool,
     own: usize,
     node: usize,
     late: usize,
@@ -211,27 +214,27 @@ fn put_share(
 ) -> Emitted
     requires { ⌜ (own < variableBound) × (node < 65536) × (late < codeBound) × Fits shareMost at ⌝ }
     ensures { λ r. ⌜
-        Emits shareMost (shareRun share own node late) (now (formula .entry)) at (now (formula .exit)) r
+        Emits shareMost (shareRun share c k own node late) (now (formula .entry)) at (now (formula .exit)) r
         ⌝ }
 {
     match share {
-        Share::Forced { c, k } => {
+        Share::Forced => {
             let driver = put_node(formula, at, node, !c);
             let gate = put_literal(formula, driver, own, k);
             return put_end(formula, gate);
         }
-        Share::Driver(c) => {
+        Share::Driver => {
             return put_node(formula, at, node, c);
         }
         Share::Late => {
-            return put_part(formula, at, late);
+            return put_part(formula, at, late, true);
         }
-        Share::Control(c) => {
+        Share::Control => {
             if late == 1 {
                 return at;
             }
             let negated = put_literal(formula, at, own, false);
-            let part = put_part(formula, negated, late);
+            let part = put_part(formula, negated, late, true);
             let driver = put_node(formula, part, node, !c);
             return put_end(formula, driver);
         }
@@ -244,6 +247,8 @@ fn put_shares(
     lates: &[u32],
     count: usize,
     share: Share,
+    c: bool,
+    k: bool,
     own: usize,
     formula: &mut [i32],
     at: Emitted,
@@ -253,7 +258,7 @@ fn put_shares(
         × Fits (count * shareMost) at
         ⌝ }
     ensures { λ r. ⌜
-        Emits (count * shareMost) (sharesRun share own (now (nodes .entry)) (now (lates .entry)) count)
+        Emits (count * shareMost) (sharesRun share c k own (now (nodes .entry)) (now (lates .entry)) count)
         (now (formula .entry)) at (now (formula .exit)) r
         ⌝ }
 {
@@ -261,7 +266,7 @@ fn put_shares(
     let mut i = 0;
     while i < count {
         let driver = asked_at(nodes, lates, i);
-        to = put_share(share, own, driver.node, driver.late, formula, to);
+        to = put_share(share, c, k, own, driver.node, driver.late, formula, to);
         i += 1;
     }
     to
@@ -404,8 +409,8 @@ fn read_asked(
     sure
 }
 
-// A head, or something late, of what was read, where `head` is a literal's code or 0 for none; left out where something
-// is late outright.
+// Not the head, or something late, of what was read, where `head` is twice a variable or 0 for none; left out where
+// something is late outright.
 fn late_clause(
     head: usize,
     nodes: &[u16],
@@ -427,8 +432,18 @@ fn late_clause(
     if sure {
         return at;
     }
-    let first = put_part(formula, at, head);
-    let parts = put_shares(nodes, lates, count, Share::Late, 0, formula, first);
+    let first = put_part(formula, at, head, false);
+    let parts = put_shares(
+        nodes,
+        lates,
+        count,
+        Share::Late,
+        false,
+        false,
+        0,
+        formula,
+        first,
+    );
     put_end(formula, parts)
 }
 
@@ -504,16 +519,18 @@ fn simple_clauses(
         ⌝ }
 {
     let own = node + 1;
-    let forced = put_shares(
+    let forced = put_shares(nodes, lates, count, Share::Forced, c, k, own, formula, at);
+    let drivers = put_shares(
         nodes,
         lates,
         count,
-        Share::Forced { c: c, k: k },
+        Share::Driver,
+        c,
+        k,
         own,
         formula,
-        at,
+        forced,
     );
-    let drivers = put_shares(nodes, lates, count, Share::Driver(c), own, formula, forced);
     let gate = put_node(formula, drivers, node, !k);
     put_end(formula, gate)
 }
@@ -652,7 +669,7 @@ fn pair_clauses(
         &mut nodes,
         &mut lates,
     );
-    let late = late_clause(pair * 2 + 1, &nodes, &lates, count, sure, formula, at);
+    let late = late_clause(pair * 2, &nodes, &lates, count, sure, formula, at);
     let kind = gate.kind;
     match kind {
         Kind::Simple { c, k: _ } => {
@@ -660,7 +677,9 @@ fn pair_clauses(
                 &nodes,
                 &lates,
                 count,
-                Share::Control(c),
+                Share::Control,
+                c,
+                false,
                 pair,
                 formula,
                 late,

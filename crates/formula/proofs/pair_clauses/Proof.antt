@@ -28,9 +28,6 @@ read-asked-requires c κs = search needs
 mul-late-clause : tie.Need-mul-late-clause
 mul-late-clause c = search needs
 
-add-late-clause : tie.Need-add-late-clause
-add-late-clause c = search needs
-
 slice-aggregate-late-clause : tie.Need-slice-aggregate-late-clause
 slice-aggregate-late-clause c = search needs
 
@@ -105,7 +102,6 @@ pair-clauses-spec =
     slice-aggregate-read-asked-2
     read-asked-requires
     mul-late-clause
-    add-late-clause
     slice-aggregate-late-clause
     slice-aggregate-late-clause-2
     late-clause-requires

@@ -10,12 +10,12 @@ use Rattle.formula.proofs.put_shares.Statement.{statement}
 use Rattle.formula.proofs.put_shares.Tie as tie
 
 abbrev Inv-loop : tie.InvT-loop
-Inv-loop nodes lates count share own formula₀ to₀ i₀ formula to i =
+Inv-loop nodes lates count share c k own formula₀ to₀ i₀ formula to i =
     (i ≤ count)
-    × E.Emitting shareMost (λ k. shareRun share own (getD nodes k 0) (getD lates k 0)) i formula₀ to₀ formula to
+    × E.Emitting shareMost (λ j. shareRun share c k own (getD nodes j 0) (getD lates j 0)) i formula₀ to₀ formula to
 
 abbrev μ-loop : tie.MeasureT-loop
-μ-loop nodes lates count share own formula₀ to₀ i₀ formula to i = count - i
+μ-loop nodes lates count share c k own formula₀ to₀ i₀ formula to i = count - i
 
 loop-holds : tie.Need-loop-holds Inv-loop μ-loop
 loop-holds c = (omega arith, E.emitting-starts _ _ _ _ (c .before .before .pre .4 .fewer))
@@ -40,7 +40,7 @@ loop-again c =
       omega arith,
       E.emitting-more (loop .inv .1)
           (E.emits-as shareMost (c .before .put-share .ensures)
-          (ap₂ (shareRun (args .share) (args .own)) (driver .asked-at .ensures .0) (driver .asked-at .ensures .1))
+          (ap₂ (shareRun (args .share) (args .c) (args .k) (args .own)) (driver .asked-at .ensures .0) (driver .asked-at .ensures .1))
           (omega arith)),
     )
 
