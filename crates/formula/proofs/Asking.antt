@@ -167,7 +167,8 @@ module _ {file : List ℕ} {l : Lent} {side : Side} {first count t : ℕ} {nodes
       (late-read i h))
 
   -- the clause of their parts, after a head that is not true outright
-  late-clause-read : (head : ℕ) (hs : List (Part ℕ)) → codeRun false head ≡ concatMap partRun hs → any isSure hs ≡ false →
+  late-clause-read : (head : ℕ) (hs : List (Part ℕ)) → codeRun false head ≡ concatMap partRun hs →
+      any isSure hs ≡ false →
       lateRun head count lates some
       ≡ tokensOf (clauseOf (hs ++ map (lateAt file l side t) (upFrom first count)))
   late-clause-read head hs e f =

@@ -109,7 +109,8 @@ shareRun Forced c k own node late = wants (nodeIs node (not c)) ∷ wants (k, ow
 shareRun Driver c k own node late = wants (nodeIs node c) ∷ []
 shareRun Late c k own node late = codeRun true late
 shareRun Control c k own node late =
-    cond (eqb late 1) [] (((wants (false, own) ∷ []) ++ codeRun true late) ++ (wants (nodeIs node (not c)) ∷ ended ∷ []))
+    cond (eqb late 1) []
+    (((wants (false, own) ∷ []) ++ codeRun true late) ++ (wants (nodeIs node (not c)) ∷ ended ∷ []))
 
 -- what so many drivers add, by what was stored of them
 abbrev pub sharesRun : Share → Bool → Bool → ℕ → List ℕ → List ℕ → ℕ → List Token
@@ -119,7 +120,8 @@ sharesRun share c k own nodes lates count =
 -- the clause of a negated head and of what is late, by the codes, and whether something is late outright
 abbrev pub lateRun : ℕ → ℕ → List ℕ → Bool → List Token
 lateRun head count lates some =
-    cond some [] ((codeRun false head ++ concatMap (λ i. codeRun true (getD lates i 0)) (upFrom 0 count)) ++ (ended ∷ []))
+    cond some []
+    ((codeRun false head ++ concatMap (λ i. codeRun true (getD lates i 0)) (upFrom 0 count)) ++ (ended ∷ []))
 
 -- ---- what is put for one gate
 

@@ -26,7 +26,7 @@ use Rattle.settle.specs.Settling.{topOf}
 use Rattle.settle.proofs.Nodes.{tops-small}
 use Rattle.pairs.specs.Pairs.{isPair, Asked, output, driver}
 use Rattle.pairs.specs.Table.{PinAsks, AsksAll, byOutput, byPin}
-use Rattle.pairs.proofs.Least.{pair-facts, member-is-pair, asked-below}
+use Rattle.pairs.proofs.Least.{pair-facts, member-is-pair, asked-early, asked-below}
 
 -- the least set of an accepted file's target
 abbrev pub AskedAt : List ℕ → Shape → ℕ → ℕ → ℕ → Type 0
@@ -48,7 +48,7 @@ module _ {file : List ℕ} {shape : Shape} (holds : Holds file shape) (target : 
   -- what is known of each that is asked for
   pub facts-of : (f t : ℕ) → AskedAt file shape target f t →
       (shape .inputs ≤ f) × (f < shape .inputs + shape .gates) × (0 < t) × (t ≤ topOf (circuitAt file shape) f)
-      × (t ≤ 447552)
+      × (t ≤ 447552) × (t ≤ target)
   facts-of f t a =
       let w =
       pair-facts (net .inputs) (topOf (circuitAt file shape)) (net .outputs) target f t
@@ -63,6 +63,7 @@ module _ {file : List ℕ} {shape : Shape} (holds : Holds file shape) (target : 
         w .1,
         w .2,
         omega (arith, w .2, tops-small net (holds .valid) f),
+        asked-early (net .inputs) (topOf (circuitAt file shape)) (net .outputs) target (nodes net) f t a,
       )
 
   -- what is asked for is asked for by an output, or by a pair that is known

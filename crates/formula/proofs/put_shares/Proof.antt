@@ -36,11 +36,12 @@ loop-again : tie.Need-loop-again Inv-loop μ-loop
 loop-again c =
     let driver = c .before .before .before in
     let loop = driver .before .before .loop in
-    let args = driver .before .before .before .before .before .args in (
+    let args = driver .before .before .before .before .before .args in
+    let read = driver .asked-at .ensures in (
       omega arith,
       E.emitting-more (loop .inv .1)
           (E.emits-as shareMost (c .before .put-share .ensures)
-          (ap₂ (shareRun (args .share) (args .c) (args .k) (args .own)) (driver .asked-at .ensures .0) (driver .asked-at .ensures .1))
+          (ap₂ (shareRun (args .share) (args .c) (args .k) (args .own)) (read .0) (read .1))
           (omega arith)),
     )
 
