@@ -7,7 +7,7 @@ use Prim.Native.Nat.{ℕ, zero, suc, _+_, _-_, _*_, _≤_, _<_}
 use native.Mathlib.Omega.{arith}
 use native.Mathlib.Numerals.{add-one}
 use lib.Dec.{eqb}
-use lib.ListN.{length, getD, take, set}
+use lib.ListN.{length, getD, take, set, length-set}
 use lib.Seq.{take-suc-set, getD-take}
 use borrow.Author.Tests.{le-ltb}
 use Rattle.basics.specs.Lists.{any, concatMap, upFrom}
@@ -50,6 +50,7 @@ use Rattle.formula.specs.Late.{
   outputsLate,
   Asking,
   Served,
+  Long,
   Reads,
 }
 use Rattle.formula.proofs.Late.{halved, late-sure, late-run, late-control, clause-run}
@@ -80,31 +81,39 @@ module _ (f : ℕ → ℕ) (first i v : ℕ) (xs : List ℕ) where
       ∙ sym (ap (map f) (upFrom-append first i 1) ∙ map-append f (upFrom first i) ((first + i) ∷ []))
 
 pub reads-none : (file : List ℕ) (l : Lent) (side : Side) (first t : ℕ) (nodes lates : List ℕ) →
-    Reads file l side first 0 t nodes lates false
-reads-none file l side first t nodes lates = record { nodes-are = refl; lates-are = refl; some-is = refl }
+    Long nodes lates → Reads file l side first 0 t nodes lates false
+reads-none file l side first t nodes lates w =
+    record { nodes-are = refl; lates-are = refl; some-is = refl; long = w }
 
 pub reads-more : {file : List ℕ} {l : Lent} {side : Side} {first i t : ℕ} {nodes lates nodes′ lates′ : List ℕ}
-    {some : Bool} (node late : ℕ) → Reads file l side first i t nodes lates some → i < length nodes → i < length lates →
+    {some : Bool} (node late : ℕ) → Reads file l side first i t nodes lates some → i < 64 →
     node ≡ nodeAt file (l .shape) side (first + i) →
     {time : ℕ} → time ≡ timeAt file (l .shape) side t (first + i) → late ≡ partCode (lateIn l node time) →
     nodes′ ≡ set nodes i node → lates′ ≡ set lates i late →
     Reads file l side first (i + 1) t nodes′ lates′ (some || eqb late 1)
-reads-more {file} {l} {side} {first} {i} {t} {nodes} {lates} {nodes′} {lates′} {some} node late r h k d {time} e c n m =
+reads-more {file} {l} {side} {first} {i} {t} {nodes} {lates} {nodes′} {lates′} {some} node late r h d {time} e c n m =
     let test : ℕ → Bool = λ entry. isSure (lateAt file l side t entry) in
     let f : late ≡ partCode (lateAt file l side t (first + i)) =
     c ∙ ap₂ (λ (x y : ℕ). partCode (lateIn l x y)) d e in
     record {
       nodes-are =
-          ap (take (i + 1)) n ∙ next-stored (nodeAt file (l .shape) side) first i node nodes (r .nodes-are) h d;
+          ap (take (i + 1)) n ∙ next-stored (nodeAt file (l .shape) side) first i node nodes (r .nodes-are)
+          (omega (arith, r .long .nodes-long)) d;
       lates-are =
           ap (take (i + 1)) m
-          ∙ next-stored (λ entry. partCode (lateAt file l side t entry)) first i late lates (r .lates-are) k f;
+          ∙ next-stored (λ entry. partCode (lateAt file l side t entry)) first i late lates (r .lates-are)
+          (omega (arith, r .long .lates-long)) f;
       some-is =
           ap₂ (λ (a b : Bool). a || b) (r .some-is)
           (ap (λ (x : ℕ). eqb x 1) f
           ∙ late-sure l (nodeAt file (l .shape) side (first + i)) (timeAt file (l .shape) side t (first + i))
           ∙ sym (one (test (first + i))))
           ∙ sym (ap (any test) (upFrom-append first i 1) ∙ any-append test (upFrom first i) ((first + i) ∷ []));
+      long =
+          record {
+            nodes-long = ap length n ∙ length-set nodes i node ∙ r .long .nodes-long;
+            lates-long = ap length m ∙ length-set lates i late ∙ r .long .lates-long;
+          };
     }
   where
     one : (b : Bool) → (b || false) ≡ b

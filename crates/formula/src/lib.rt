@@ -54,6 +54,7 @@ ghost use Rattle.formula.specs.Late.{
   outputsLate,
   wholeRun,
   Slices,
+  Long,
   Ready,
   Asking,
   Served,
@@ -180,16 +181,16 @@ fn widen(x: u16) -> usize
 }
 
 // A node that was stored.
-fn node_at(nodes: &[u16], i: usize) -> usize
-    requires { ⌜ i < length (now nodes) ⌝ }
+fn node_at(nodes: &[u16; 64], i: usize) -> usize
+    requires { ⌜ i < 64 ⌝ }
     ensures { λ r. ⌜ (r ≡ getD (now (nodes .entry)) i 0) × (r < 65536) ⌝ }
 {
     widen(nodes[i])
 }
 
 // What was stored of entry i.
-fn asked_at(nodes: &[u16], lates: &[u32], i: usize) -> Asked
-    requires { ⌜ (i < length (now nodes)) × (i < length (now lates)) ⌝ }
+fn asked_at(nodes: &[u16; 64], lates: &[u32; 64], i: usize) -> Asked
+    requires { ⌜ i < 64 ⌝ }
     ensures { λ r. ⌜
         (r .node ≡ getD (now (nodes .entry)) i 0) × (r .late ≡ getD (now (lates .entry)) i 0) × (r .node < 65536)
         × (r .late < codeBound)
@@ -243,8 +244,8 @@ fn put_share(
 
 // What each of `count` drivers adds: the one loop over a gate's pins, and over the outputs.
 fn put_shares(
-    nodes: &[u16],
-    lates: &[u32],
+    nodes: &[u16; 64],
+    lates: &[u32; 64],
     count: usize,
     share: Share,
     c: bool,
@@ -253,10 +254,7 @@ fn put_shares(
     formula: &mut [i32],
     at: Emitted,
 ) -> Emitted
-    requires { ⌜
-        (count ≤ length (now nodes)) × (count ≤ length (now lates)) × (count ≤ 64) × (own < variableBound)
-        × Fits (count * shareMost) at
-        ⌝ }
+    requires { ⌜ (count ≤ 64) × (own < variableBound) × Fits (count * shareMost) at ⌝ }
     ensures { λ r. ⌜
         Emits (count * shareMost) (sharesRun share c k own (now (nodes .entry)) (now (lates .entry)) count)
         (now (formula .entry)) at (now (formula .exit)) r
@@ -303,6 +301,14 @@ fn place_of(table: &[u32], starts: &[usize], node: usize, t: usize) -> usize
     pairs::place(table, table.len() / 2, starts, node, t)
 }
 
+// The variable of pair k (rule F5).
+fn pair_variable(shape: Shape, k: usize) -> usize
+    requires { ⌜ (shape .inputs + shape .gates ≤ 512) × (k < 65536) ⌝ }
+    ensures { λ r. ⌜ r ≡ shape .inputs + shape .gates + k + 1 ⌝ }
+{
+    shape.inputs + shape.gates + k + 1
+}
+
 // That a node is late at t, as a code: 1 if true outright, 0 if false outright, else the code of its pair's literal.
 fn late_code(
     shape: Shape,
@@ -330,7 +336,7 @@ fn late_code(
     if top < t {
         return 0;
     }
-    (shape.inputs + shape.gates + place_of(table, starts, node, t) + 1) * 2
+    pair_variable(shape, place_of(table, starts, node, t)) * 2
 }
 
 // What an entry asks for: a pin its driver, at t less its delay; an output itself, at t.
@@ -361,10 +367,8 @@ fn moment_at(file: &[u8], shape: Shape, side: Side, entry: usize, t: usize) -> M
 }
 
 // What is known of entry i is stored.
-fn store(nodes: &mut [u16], lates: &mut [u32], i: usize, node: usize, late: usize)
-    requires { ⌜
-        (i < length (now nodes)) × (i < length (now lates)) × (node < 65536) × (late < codeBound)
-        ⌝ }
+fn store(nodes: &mut [u16; 64], lates: &mut [u32; 64], i: usize, node: usize, late: usize)
+    requires { ⌜ (i < 64) × (node < 65536) × (late < codeBound) ⌝ }
     ensures { λ _. ⌜
         (now (nodes .exit) ≡ set (now (nodes .entry)) i node) × (now (lates .exit) ≡ set (now (lates .entry)) i late)
         ⌝ }
@@ -384,13 +388,13 @@ fn read_asked(
     first: usize,
     count: usize,
     t: usize,
-    nodes: &mut [u16],
-    lates: &mut [u32],
+    nodes: &mut [u16; 64],
+    lates: &mut [u32; 64],
 ) -> bool
     requires { ⌜
         Tables (now file) shape × Ready (lent shape (now tops) (now table)) (now starts)
         × Served (now file) (lent shape (now tops) (now table)) side first count t
-        × (count ≤ length (now nodes)) × (count ≤ length (now lates)) × (first + count ≤ 2048)
+        × (count ≤ 64) × (first + count ≤ 2048) × Long (now nodes) (now lates)
         ⌝ }
     ensures { λ r. ⌜
         Reads (now (file .entry)) (lent shape (now (tops .entry)) (now (table .entry))) side first count t
@@ -413,17 +417,14 @@ fn read_asked(
 // something is late outright.
 fn late_clause(
     head: usize,
-    nodes: &[u16],
-    lates: &[u32],
+    nodes: &[u16; 64],
+    lates: &[u32; 64],
     count: usize,
     sure: bool,
     formula: &mut [i32],
     at: Emitted,
 ) -> Emitted
-    requires { ⌜
-        (head < codeBound) × (count ≤ length (now nodes)) × (count ≤ length (now lates)) × (count ≤ 64)
-        × Fits (count * shareMost + 2) at
-        ⌝ }
+    requires { ⌜ (head < codeBound) × (count ≤ 64) × Fits (count * shareMost + 2) at ⌝ }
     ensures { λ r. ⌜
         Emits (count * shareMost + 2) (lateRun head count (now (lates .entry)) sure) (now (formula .entry)) at
         (now (formula .exit)) r
@@ -451,7 +452,7 @@ fn late_clause(
 
 // A clause of a gate f, one of whose pins chooses and another is chosen: pin x is a, or pin y is b, or f is c.
 fn choice_clause(
-    nodes: &[u16],
+    nodes: &[u16; 64],
     x: usize,
     a: bool,
     y: usize,
@@ -461,7 +462,7 @@ fn choice_clause(
     formula: &mut [i32],
     at: Emitted,
 ) -> Emitted
-    requires { ⌜ (x < length (now nodes)) × (y < length (now nodes)) × (f < 65536) × Fits 4 at ⌝ }
+    requires { ⌜ (x < 64) × (y < 64) × (f < 65536) × Fits 4 at ⌝ }
     ensures { λ r. ⌜
         Emits 4 (three (nodeIs (getD (now (nodes .entry)) x 0) a) (nodeIs (getD (now (nodes .entry)) y 0) b)
         (nodeIs f c)) (now (formula .entry)) at (now (formula .exit)) r
@@ -477,7 +478,7 @@ fn choice_clause(
 // s, or a is not d, or f is not e; then the same two of not s, with b for a and g for e. A multiplexer chooses
 // between two pins, a parity gate between a pin and its opposite.
 fn choice_clauses(
-    nodes: &[u16],
+    nodes: &[u16; 64],
     last: usize,
     d: bool,
     e: bool,
@@ -486,7 +487,7 @@ fn choice_clauses(
     formula: &mut [i32],
     at: Emitted,
 ) -> Emitted
-    requires { ⌜ (1 < length (now nodes)) × (last < length (now nodes)) × (f < 65536) × Fits 16 at ⌝ }
+    requires { ⌜ (last < 64) × (f < 65536) × Fits 16 at ⌝ }
     ensures { λ r. ⌜
         Emits 16 (choiceRun (getD (now (nodes .entry)) 0 0) (getD (now (nodes .entry)) 1 0)
         (getD (now (nodes .entry)) last 0) d e g f) (now (formula .entry)) at (now (formula .exit)) r
@@ -500,8 +501,8 @@ fn choice_clauses(
 
 // A simple gate: a clause of two literals for each pin, then one over all pins (rule F9).
 fn simple_clauses(
-    nodes: &[u16],
-    lates: &[u32],
+    nodes: &[u16; 64],
+    lates: &[u32; 64],
     count: usize,
     c: bool,
     k: bool,
@@ -509,10 +510,7 @@ fn simple_clauses(
     formula: &mut [i32],
     at: Emitted,
 ) -> Emitted
-    requires { ⌜
-        (count ≤ length (now nodes)) × (count ≤ length (now lates)) × (count ≤ 8) × (node < 65536)
-        × Fits gateMost at
-        ⌝ }
+    requires { ⌜ (count ≤ 8) × (node < 65536) × Fits gateMost at ⌝ }
     ensures { λ r. ⌜
         Emits gateMost (simpleRun c k node (now (nodes .entry)) (now (lates .entry)) count) (now (formula .entry)) at
         (now (formula .exit)) r
@@ -544,21 +542,23 @@ fn gate_clauses(
     starts: &[usize],
     gate: Gate,
     node: usize,
+    nodes: &mut [u16; 64],
+    lates: &mut [u32; 64],
     formula: &mut [i32],
     at: Emitted,
 ) -> Emitted
     requires { ⌜
         Tables (now file) shape × Ready (lent shape (now tops) (now table)) (now starts)
         × Gated (now file) (lent shape (now tops) (now table)) gate 0 × (node < 65536) × Fits gateMost at
+        × Long (now nodes) (now lates)
         ⌝ }
     ensures { λ r. ⌜
         Emits gateMost (tokensOf (gateClauses nodeVariable (gate .kind)
         (pinsFrom (now (file .entry)) shape (gate .first) (gate .count)) node)) (now (formula .entry)) at
         (now (formula .exit)) r
+        × Long (now (nodes .exit)) (now (lates .exit))
         ⌝ }
 {
-    let mut nodes = [0u16; 8];
-    let mut lates = [0u32; 8];
     let first = gate.first;
     let count = gate.count;
     let kind = gate.kind;
@@ -572,18 +572,18 @@ fn gate_clauses(
         first,
         count,
         0,
-        &mut nodes,
-        &mut lates,
+        nodes,
+        lates,
     );
     match kind {
         Kind::Simple { c, k } => {
-            return simple_clauses(&nodes, &lates, count, c, k, node, formula, at);
+            return simple_clauses(nodes, lates, count, c, k, node, formula, at);
         }
         Kind::Parity(equal) => {
-            return choice_clauses(&nodes, 1, true, equal, !equal, node, formula, at);
+            return choice_clauses(nodes, 1, true, equal, !equal, node, formula, at);
         }
         Kind::Mux => {
-            return choice_clauses(&nodes, 2, false, true, true, node, formula, at);
+            return choice_clauses(nodes, 2, false, true, true, node, formula, at);
         }
     }
 }
@@ -595,15 +595,19 @@ fn all_gates(
     tops: &[u32],
     table: &[u32],
     starts: &[usize],
+    nodes: &mut [u16; 64],
+    lates: &mut [u32; 64],
     formula: &mut [i32],
     at: Emitted,
 ) -> Emitted
     requires { ⌜
         Holds (now file) shape × Ready (lent shape (now tops) (now table)) (now starts) × Fits gatesMost at
+        × Long (now nodes) (now lates)
         ⌝ }
     ensures { λ r. ⌜
         Emits gatesMost (concatMap (gateRun (now (file .entry)) shape) (upFrom 0 (shape .gates)))
         (now (formula .entry)) at (now (formula .exit)) r
+        × Long (now (nodes .exit)) (now (lates .exit))
         ⌝ }
 {
     let mut to = at;
@@ -618,6 +622,8 @@ fn all_gates(
             starts,
             gate,
             shape.inputs + i,
+            nodes,
+            lates,
             formula,
             to,
         );
@@ -638,22 +644,23 @@ fn pair_clauses(
     gate: Gate,
     pair: usize,
     t: usize,
+    nodes: &mut [u16; 64],
+    lates: &mut [u32; 64],
     formula: &mut [i32],
     at: Emitted,
 ) -> Emitted
     requires { ⌜
         Tables (now file) shape × Ready (lent shape (now tops) (now table)) (now starts)
         × Gated (now file) (lent shape (now tops) (now table)) gate t × (0 < pair) × (pair < variableBound)
-        × Fits gateMost at
+        × Fits gateMost at × Long (now nodes) (now lates)
         ⌝ }
     ensures { λ r. ⌜
         Emits gateMost (clausesIn (lent shape (now (tops .entry)) (now (table .entry))) pair (gate .kind)
         (pinsFrom (now (file .entry)) shape (gate .first) (gate .count)) t) (now (formula .entry)) at
         (now (formula .exit)) r
+        × Long (now (nodes .exit)) (now (lates .exit))
         ⌝ }
 {
-    let mut nodes = [0u16; 8];
-    let mut lates = [0u32; 8];
     let first = gate.first;
     let count = gate.count;
     let sure = read_asked(
@@ -666,16 +673,16 @@ fn pair_clauses(
         first,
         count,
         t,
-        &mut nodes,
-        &mut lates,
+        nodes,
+        lates,
     );
-    let late = late_clause(pair * 2, &nodes, &lates, count, sure, formula, at);
+    let late = late_clause(pair * 2, nodes, lates, count, sure, formula, at);
     let kind = gate.kind;
     match kind {
         Kind::Simple { c, k: _ } => {
             return put_shares(
-                &nodes,
-                &lates,
+                nodes,
+                lates,
                 count,
                 Share::Control,
                 c,
@@ -709,14 +716,6 @@ fn pair_at(table: &[u32], k: usize) -> Moment
     }
 }
 
-// The variable of pair k (rule F5).
-fn pair_variable(shape: Shape, k: usize) -> usize
-    requires { ⌜ (shape .inputs + shape .gates ≤ 512) × (k < 65536) ⌝ }
-    ensures { λ r. ⌜ r ≡ shape .inputs + shape .gates + k + 1 ⌝ }
-{
-    shape.inputs + shape.gates + k + 1
-}
-
 // Each pair, rising variable.
 fn all_pairs(
     file: &[u8],
@@ -724,16 +723,20 @@ fn all_pairs(
     tops: &[u32],
     table: &[u32],
     starts: &[usize],
+    nodes: &mut [u16; 64],
+    lates: &mut [u32; 64],
     formula: &mut [i32],
     at: Emitted,
 ) -> Emitted
     requires { ⌜
         Holds (now file) shape × Ready (lent shape (now tops) (now table)) (now starts)
         × AllStand (now file) (lent shape (now tops) (now table)) × Fits pairsMost at
+        × Long (now nodes) (now lates)
         ⌝ }
     ensures { λ r. ⌜
         Emits pairsMost (concatMap (pairRun (now (file .entry)) (lent shape (now (tops .entry)) (now (table .entry))))
         (upFrom 0 (length (now (table .entry)) / 2))) (now (formula .entry)) at (now (formula .exit)) r
+        × Long (now (nodes .exit)) (now (lates .exit))
         ⌝ }
 {
     let mut to = at;
@@ -750,6 +753,8 @@ fn all_pairs(
             gate,
             pair_variable(shape, k),
             pair.time,
+            nodes,
+            lates,
             formula,
             to,
         );
@@ -768,20 +773,21 @@ fn output_clause(
     table: &[u32],
     starts: &[usize],
     target: usize,
+    nodes: &mut [u16; 64],
+    lates: &mut [u32; 64],
     formula: &mut [i32],
     at: Emitted,
 ) -> Emitted
     requires { ⌜
         Holds (now file) shape × Ready (lent shape (now tops) (now table)) (now starts)
         × Served (now file) (lent shape (now tops) (now table)) Outputs 0 (shape .outputs) target × Fits outputsMost at
+        × Long (now nodes) (now lates)
         ⌝ }
     ensures { λ r. ⌜
         Emits outputsMost (outputsLate (now (file .entry)) (lent shape (now (tops .entry)) (now (table .entry))) target)
         (now (formula .entry)) at (now (formula .exit)) r
         ⌝ }
 {
-    let mut nodes = [0u16; 64];
-    let mut lates = [0u32; 64];
     let count = shape.outputs;
     let sure = read_asked(
         file,
@@ -793,10 +799,10 @@ fn output_clause(
         0,
         count,
         target,
-        &mut nodes,
-        &mut lates,
+        nodes,
+        lates,
     );
-    late_clause(0, &nodes, &lates, count, sure, formula, at)
+    late_clause(0, nodes, lates, count, sure, formula, at)
 }
 
 // 1, 2 and 3 in order, from the slice's first place on.
@@ -830,9 +836,42 @@ fn emit(
         shape.inputs + shape.gates,
         &mut starts,
     );
-    let gates = all_gates(file, shape, tops, table, &starts, formula, start);
-    let pairs = all_pairs(file, shape, tops, table, &starts, formula, gates);
-    output_clause(file, shape, tops, table, &starts, target, formula, pairs)
+    let mut nodes = [0u16; 64];
+    let mut lates = [0u32; 64];
+    let gates = all_gates(
+        file,
+        shape,
+        tops,
+        table,
+        &starts,
+        &mut nodes,
+        &mut lates,
+        formula,
+        start,
+    );
+    let pairs = all_pairs(
+        file,
+        shape,
+        tops,
+        table,
+        &starts,
+        &mut nodes,
+        &mut lates,
+        formula,
+        gates,
+    );
+    output_clause(
+        file,
+        shape,
+        tops,
+        table,
+        &starts,
+        target,
+        &mut nodes,
+        &mut lates,
+        formula,
+        pairs,
+    )
 }
 
 // The formula of an accepted file whose tops and pairs are known; 9 where it has no room.

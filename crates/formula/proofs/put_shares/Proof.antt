@@ -18,7 +18,7 @@ abbrev μ-loop : tie.MeasureT-loop
 μ-loop nodes lates count share c k own formula₀ to₀ i₀ formula to i = count - i
 
 loop-holds : tie.Need-loop-holds Inv-loop μ-loop
-loop-holds c = (omega arith, E.emitting-starts _ _ _ _ (c .before .before .pre .4 .fewer))
+loop-holds c = (omega arith, E.emitting-starts _ _ _ _ (c .pre .2 .fewer))
 
 asked-at-requires : tie.Need-asked-at-requires Inv-loop μ-loop
 asked-at-requires c κs = search needs
@@ -36,7 +36,7 @@ loop-again : tie.Need-loop-again Inv-loop μ-loop
 loop-again c =
     let driver = c .before .before .before in
     let loop = driver .before .before .loop in
-    let args = driver .before .before .before .before .before .args in
+    let args = driver .before .before .before .args in
     let read = driver .asked-at .ensures in (
       omega arith,
       E.emitting-more (loop .inv .1)
@@ -51,7 +51,7 @@ same-length c = E.emitting-length (c .before .loop .inv .1)
 returns : tie.Need-returns Inv-loop μ-loop
 returns c =
     let loop = c .before .loop in
-    let args = c .before .before .before .before .args in
+    let args = c .before .before .args in
     E.emitting-ends (args .count) (args .count * shareMost) (loop .inv .1) (loop .inv .0) (c .loop-test .left)
     (omega arith)
 
