@@ -11,7 +11,6 @@ A line that this version does not know is refused by its name, so that a later o
 """
 
 import array
-import re
 from collections import namedtuple
 
 from . import files
@@ -19,11 +18,11 @@ from .formulas import clause_text
 from .netlist import TRAILER
 from .refutations import Refutation, row
 from .trouble import Refused, Slip
-from .vectors import PART, shown_vector
+from .vectors import named_value, shown_vector
 from .words import MOST_NUMBER, count, lines_of, number_in, shown
 
 FIRST_LINE = "buzzlumen certificate 1"
-DIGEST = re.compile(r"[0-9a-f]{64}")
+DIGEST_DIGITS = 64
 KNOWN = ("netlist", "delay", "vector", "refutation")
 
 # A certificate: the netlist's digest, the delay, the vector as names and values, the refutation.
@@ -71,7 +70,7 @@ class Reading:
     def read_netlist(self, place, rest):
         """The digest."""
         method, _, digest = rest.partition(" ")
-        if method != "sha256" or not DIGEST.fullmatch(digest):
+        if method != "sha256" or len(digest) != DIGEST_DIGITS or digest.strip("0123456789abcdef"):
             raise self.slip(place, "a digest is sha256 and 64 hexadecimal digits")
         return digest
 
@@ -84,11 +83,10 @@ class Reading:
 
     def read_vector(self, place, rest):
         """The inputs' names and values."""
-        parts = [PART.fullmatch(word) for word in rest.split()]
-        values = [number_in(part[2], 1) if part else None for part in parts]
+        parts = [named_value(word, 1) for word in rest.split()]
+        names, values = [name for name, _ in parts], [value for _, value in parts]
         if not parts or None in values:
             raise self.slip(place, "a vector names each input and its value, 0 or 1, as a=0 b=1")
-        names = [part[1] for part in parts]
         if len(set(names)) < len(names):
             raise self.slip(place, "an input has a value twice")
         return names, values

@@ -12,7 +12,6 @@ above, a colon, and the pin's delay, 0 to 999. MUX takes its pins as select, a, 
 characters but blanks and ( ) , : = #. Outputs may be named in any order.
 """
 
-import re
 from collections import namedtuple
 
 from . import files
@@ -20,11 +19,7 @@ from .netlist import (KINDS, MOST_DELAY, MOST_GATES, MOST_INPUTS, MOST_OUTPUTS, 
                       Pin, read_netlist, write_netlist)
 from .refusals import of_netlist
 from .trouble import Slip
-from .words import lines_of, number_in, printable, shown
-
-NAME = r"[^\s(),:=#]+"
-GATE_LINE = re.compile(rf"({NAME})\s*=\s*({NAME})\s*\((.*)\)")
-PIN_WORD = re.compile(rf"({NAME})\s*:\s*(\S+)")
+from .words import is_digits, is_name, lines_of, number_in, printable, shown
 
 # A circuit out of a file: the netlist file's bytes, the netlist, the name of each node, inputs first;
 # `plain` says that the names are n0, n1 and so on, as a netlist file holds none.
@@ -49,7 +44,7 @@ class Drawing:
 
     def name_node(self, name):
         """The next node gets a name of its own."""
-        if not re.fullmatch(NAME, name) or not name.isprintable():
+        if not is_name(name) or not name.isprintable():
             raise Mistake(f"{shown(name)} is no name: blanks and ( ) , : = # are kept for the format")
         if name in self.number_of:
             raise Mistake(f"{name} is named twice")
@@ -66,7 +61,8 @@ class Drawing:
         if self.gates:
             raise Mistake("inputs come before the first gate")
         for name in names:
-            if re.fullmatch(rf"{NAME}:[0-9]+", name):
+            before, _, arrival = name.partition(":")
+            if is_name(before) and is_digits(arrival):
                 raise Mistake(f"{shown(name)}: an input's arrival time is not read yet; every input arrives at 0")
             self.name_node(name)
         self.inputs = len(self.number_of)
@@ -97,16 +93,13 @@ class Drawing:
 
     def pin(self, word):
         """A pin, `NAME:DELAY`."""
-        found = PIN_WORD.fullmatch(word)
-        if not found:
-            raise Mistake(f"{shown(word)} is no pin; a pin is a name, a colon and a delay, as b:1")
-        name, delay = found.groups()
-        if re.fullmatch(r"[0-9]+/[0-9]+", delay):
+        name, delay = (part.strip() for part in word.partition(":")[::2])
+        if is_name(name) and all(is_digits(part) for part in delay.split("/", 1)) and "/" in delay:
             raise Mistake(f"{shown(word)}: a delay for rising and one for falling are not read yet; write one")
-        if re.fullmatch(r"[0-9]+", delay) and number_in(delay, MOST_DELAY) is None:
-            raise Mistake(f"the delay {shown(delay)} of pin {printable(name)} is over {MOST_DELAY}")
-        if not re.fullmatch(r"[0-9]+", delay):
+        if not is_name(name) or not is_digits(delay):
             raise Mistake(f"{shown(word)} is no pin; a pin is a name, a colon and a delay, as b:1")
+        if number_in(delay, MOST_DELAY) is None:
+            raise Mistake(f"the delay {shown(delay)} of pin {printable(name)} is over {MOST_DELAY}")
         return Pin(self.node(name), number_in(delay, MOST_DELAY))
 
     def whole(self):
@@ -124,12 +117,21 @@ def at_most(what, number, most):
         raise Mistake(f"more than {most} {what}")
 
 
+def gate_parts(line):
+    """The name, the kind and the words of the pins in a line `NAME = KIND(PIN, ...)`; None where it is no such line."""
+    name, _, rest = line.partition("=")
+    kind, bracket, pin_words = rest.partition("(")
+    name, kind = name.strip(), kind.strip()
+    if bracket and pin_words.endswith(")") and is_name(name) and is_name(kind):
+        return name, kind, pin_words.removesuffix(")")
+    return None
+
+
 def read_line(drawing, line):
     """One statement, without its comment."""
-    gate = GATE_LINE.fullmatch(line)
-    words = line.split()
+    gate, words = gate_parts(line), line.split()
     if gate:
-        drawing.add_gate(*gate.groups())
+        drawing.add_gate(*gate)
     elif words[:1] == ["input"] and words[1:]:
         drawing.add_inputs(words[1:])
     elif words[:1] == ["output"] and words[1:]:

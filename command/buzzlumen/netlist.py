@@ -39,11 +39,11 @@ def read_netlist(data):
     end = len(data) - TRAILER.size
     back, inputs, gate_count, pin_count, output_count, _ = TRAILER.unpack_from(data, end)
     tables = data[end - back:end]
-    rows = [struct.unpack_from("<BBH", tables, 4 * gate) for gate in range(gate_count)]
-    pins = [Pin(*struct.unpack_from("<HH", tables, 4 * (gate_count + pin))) for pin in range(pin_count)]
-    outputs = struct.unpack_from(f"<{output_count}H", tables, 4 * (gate_count + pin_count))
-    gates = [Gate(KINDS[kind - 1], pins[first:first + count]) for kind, count, first in rows]
-    return Netlist(inputs, gates, list(outputs))
+    pin_table, output_table = 4 * gate_count, 4 * (gate_count + pin_count)
+    pins = list(map(Pin._make, struct.iter_unpack("<HH", tables[pin_table:output_table])))
+    gates = [Gate(KINDS[kind - 1], pins[first:first + count])
+             for kind, count, first in struct.iter_unpack("<BBH", tables[:pin_table])]
+    return Netlist(inputs, gates, list(struct.unpack_from(f"<{output_count}H", tables, output_table)))
 
 
 def looks_like_netlist(data):
