@@ -11,7 +11,7 @@ import array
 from collections import namedtuple
 
 from .library import Refusal
-from .machine import folder_for_a_while
+from .machine import FolderForAWhile
 from .netlist import Gate, Netlist, Pin, longest_path, tops_of, write_netlist
 from .refusals import MOST_PAIRS, PAIRS, of_pairs
 from .solvers import Solver, read_steps
@@ -89,21 +89,24 @@ class Search:
         # The file of the refutation at times[high]; None where it was refuted output by output.
         self.refuted = None
 
-    def reach(self, vector):
-        """A vector settles at some time: take it where it is the latest so far; gives whether it is."""
-        place = self.place_of[self.library.evaluate(self.circuit.data, vector).time]
+    def reach(self, *vectors):
+        """Vectors settle at some times: take the latest of them where it is later than all before; gives whether it
+        is."""
+        times = self.library.times_of(self.circuit.data, vectors)
+        place = self.place_of[max(times)]
         if place > self.low:
-            self.low, self.vector = place, vector
+            self.low, self.vector = place, vectors[times.index(max(times))]
             return True
         return False
 
     def first_looks(self):
         """Some vectors, without a solver."""
         state, inputs = 1, self.netlist.inputs
-        self.reach(bytes(inputs))
+        vectors = [bytes(inputs)]
         for _ in range(FIRST_LOOKS):
             state = state * 6364136223846793005 + 1442695040888963407 & 2 ** 64 - 1
-            self.reach(bytes((state * 0x9E3779B97F4A7C15 >> bit & 1) for bit in range(inputs)))
+            vectors.append(bytes((state * 0x9E3779B97F4A7C15 >> bit & 1) for bit in range(inputs)))
+        self.reach(*vectors)
 
     def target(self, place):
         """The least target that asks for times[place] or later and for nothing before."""
@@ -217,16 +220,12 @@ def smaller(library, circuit, delay, vector):
     the first one in order."""
     if circuit.netlist.inputs <= MOST_ORDERED_INPUTS:
         return library.walk(circuit.data, circuit.netlist.inputs, delay)[1]
-    for place in range(len(vector)):
-        other = vector[:place] + b"\0" + vector[place + 1:]
-        if other != vector and library.evaluate(circuit.data, other).time == delay:
-            vector = other
-    return vector
+    return library.fewer_ones(circuit.data, delay, vector)
 
 
 def by_solver(circuit, library, name, progress, limit=None):
     """A certificate, by a solver."""
-    with folder_for_a_while() as folder:
+    with FolderForAWhile() as folder:
         search = Search(circuit, library, Solver(name, folder, progress, limit), progress)
         search.run()
         delay, steps = search.times[search.low], search.refutation()
@@ -240,8 +239,7 @@ def shortened(library, circuit, delay, steps):
     """A refutation of the formula for the delay + 1 without the steps that it does not need."""
     if len(steps) == 1:
         return steps
-    built = library.build(circuit.data, delay + 1)
-    return library.shorten(built.variables, built.formula, steps)
+    return library.shorten_for(circuit.data, delay + 1, steps)
 
 
 # By trying
