@@ -1,25 +1,10 @@
-"""The command's words: one tree of subcommands, from which the help, the man page and the completion are made."""
+"""The command's words: what each subcommand takes, told to whatever reads words.
 
-import argparse
-
-from . import __version__
-
-STATUS = """exit status:
-  0  an answer            2  a slip in what was asked: a word, a file that does not read, an output that stands already
-  1  a refusal            3  something of the machine: no solver, no library, no room on the disk
-  Of several circuits, the largest. An interrupt ends with 130."""
-
-DESCRIPTION = """The true delay of a circuit, with a certificate that anyone can check, by a library that is proved.
-Answers go to standard output, the same in plain words to standard error."""
+tree.py makes argparse's tree of it, from which the help, the man page and the completion are made; plain.py reads by it
+without argparse. `add` gives what has argparse's calls for a subcommand's arguments.
+"""
 
 CIRCUIT_HELP = "a circuit: its text or a netlist file, known by its content; - is standard input"
-
-
-class Wide(argparse.RawDescriptionHelpFormatter):
-    """Help as it is written, as wide on every terminal."""
-
-    def __init__(self, prog):
-        super().__init__(prog, max_help_position=28, width=110)
 
 
 def add_output(parser, what):
@@ -122,20 +107,3 @@ def add_man(add):
 
 COMMANDS = (add_times, add_formula, add_check, add_judge, add_delay, add_explain, add_netlist, add_from_yosys,
             add_completion, add_man)
-
-
-def parser():
-    """The tree of subcommands."""
-    whole = argparse.ArgumentParser(prog="buzzlumen", description=DESCRIPTION, epilog=STATUS, formatter_class=Wide,
-                                    allow_abbrev=False)
-    whole.add_argument("--version", action="version", version=f"buzzlumen {__version__}")
-    below = whole.add_subparsers(dest="command", metavar="COMMAND", title="commands")
-
-    def add(name, says, example):
-        sentence = says[0].upper() + says[1:] + ("" if says.endswith("?") else ".")
-        return below.add_parser(name, help=says, description=sentence, epilog=f"example:\n  {example}",
-                                formatter_class=Wide, allow_abbrev=False)
-
-    for command in COMMANDS:
-        command(add)
-    return whole

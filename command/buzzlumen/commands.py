@@ -10,7 +10,6 @@ import time
 
 from . import files
 from .circuit import load, write_text
-from .formulas import Meanings, NoMeanings, dimacs, read_formula
 from .library import Refusal
 from .netlist import longest_path, tops_of
 from .refusals import (FORMULA, LAST, PAIRS, REFUTATION, STEP, TABLE, VECTOR, WITNESS, in_words, named, of_pairs,
@@ -74,6 +73,7 @@ def all_times(circuit, library, say):
 
 def formula(asked, library, say):
     """The formula for a target."""
+    from .formulas import Meanings, dimacs
     files.check_free(asked.output, asked.force)
     target = asked_number(asked.target, "a target")
     circuit = load(asked.circuit, library)
@@ -98,6 +98,7 @@ def build(circuit, target, library):
 
 def check(asked, library, say):
     """Whether a refutation passes."""
+    from .formulas import NoMeanings, read_formula
     from .refutations import of_refutation, read_refutation
     asked_formula = read_formula(asked.formula)
     refutation = read_refutation(asked.refutation)
@@ -183,6 +184,7 @@ def judged(circuit, delay, vector, refutation, library):
 
 def tell_judgement(refusal, circuit, delay, vector, refutation, library):
     """Put the cause of a refused certificate into words."""
+    from .formulas import Meanings
     from .refutations import of_refutation
     if refusal.number == VECTOR:
         refusal.words = of_vector(refusal.place, vector, circuit.names, circuit.netlist.inputs)
@@ -323,16 +325,16 @@ def from_yosys(asked, _library, say):
 
 def completion(_asked, _library, say):
     """The completion for bash."""
-    from .arguments import parser
     from .manual import completion_text
+    from .tree import parser
     say.write(completion_text(parser()).encode(), None, False)
     return 0
 
 
 def man(_asked, _library, say):
     """The man page."""
-    from .arguments import parser
     from .manual import man_text
+    from .tree import parser
     say.write(man_text(parser()).encode(), None, False)
     return 0
 
