@@ -16,7 +16,7 @@ except ImportError:
 
 from .trouble import OfTheMachine
 
-LOOK_SECONDS = 0.01
+LOOK_SECONDS = 0.002
 
 
 def on_path(name):
