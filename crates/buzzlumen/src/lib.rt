@@ -109,32 +109,34 @@ fn numbers_of_built(answer: Built) -> Formed
 #[no_mangle]
 pub extern "C" fn buzzlumen_evaluate(
     netlist: &[u8],
+    arrivals: &[u32],
     vector: &[u8],
     values: &mut [u8],
     times: &mut [u32],
 ) -> Evaluated
     ensures { λ r. ⌜
-        Evaluates (evaluation (now (netlist .entry)) (now (vector .entry)) (length (now (values .entry)))
-        (length (now (times .entry)))) r (now (values .exit)) (now (times .exit))
+        Evaluates (evaluation (now (netlist .entry)) (now (arrivals .entry)) (now (vector .entry))
+        (length (now (values .entry))) (length (now (times .entry)))) r (now (values .exit)) (now (times .exit))
         ⌝ }
 {
-    numbers_of_settled(settle::evaluate(netlist, vector, values, times))
+    numbers_of_settled(settle::evaluate(netlist, arrivals, vector, values, times))
 }
 
 // The formula that says that some output settles at the target or later.
 #[no_mangle]
 pub extern "C" fn buzzlumen_build(
     netlist: &[u8],
+    arrivals: &[u32],
     target: u32,
     pairs: &mut [u32],
     formula: &mut [i32],
 ) -> Formed
     ensures { λ r. ⌜
-        Builds (building (now (netlist .entry)) target (length (now (pairs .entry)))
+        Builds (building (now (netlist .entry)) (now (arrivals .entry)) target (length (now (pairs .entry)))
         (length (now (formula .entry)))) r (now (pairs .exit)) (now (formula .exit))
         ⌝ }
 {
-    numbers_of_built(formula::build(netlist, target, pairs, formula))
+    numbers_of_built(formula::build(netlist, arrivals, target, pairs, formula))
 }
 
 // Whether each clause of a refutation follows.
@@ -157,6 +159,7 @@ pub extern "C" fn buzzlumen_check<'a>(
 #[no_mangle]
 pub extern "C" fn buzzlumen_judge(
     netlist: &[u8],
+    arrivals: &[u32],
     delay: u32,
     vector: &[u8],
     refutation: &[i32],
@@ -167,7 +170,7 @@ pub extern "C" fn buzzlumen_judge(
     propagation: &mut [u8],
 ) -> Answer
     ensures { λ r. ⌜
-        Certifies (now (netlist .entry)) delay (now (vector .entry)) (now (refutation .entry))
+        Certifies (now (netlist .entry)) (now (arrivals .entry)) delay (now (vector .entry)) (now (refutation .entry))
         (roomsOf (now (values .entry)) (now (times .entry)) (now (pairs .entry)) (now (formula .entry))
         (now (propagation .entry)))
         (now (values .exit)) (now (times .exit)) (now (pairs .exit)) (now (formula .exit)) (now (propagation .exit)) r
@@ -175,6 +178,7 @@ pub extern "C" fn buzzlumen_judge(
 {
     numbers_of_checked(certificate::judge(
         netlist,
+        arrivals,
         delay,
         vector,
         refutation,

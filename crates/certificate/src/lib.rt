@@ -8,7 +8,7 @@ use refusal::Refusal;
 use settle::Settled;
 ghost use mathlib.Core.Path.{_≡_};
 ghost use lib.ListN.{length};
-ghost use Rattle.netlist.specs.Holds.{Holds};
+ghost use Rattle.netlist.specs.Holds.{Given};
 ghost use Rattle.netlist.specs.File.{circuitAt, circuitOf};
 ghost use Rattle.refusal.specs.declared.Checked.the-variants.{Passes};
 ghost use Rattle.certificate.specs.Largest.{Largest};
@@ -44,18 +44,19 @@ fn refuse(
 fn refutes(
     file: &[u8],
     shape: Shape,
+    arrivals: &[u32],
     target: u32,
     refutation: &[i32],
     pairs: &mut [u32],
     formula: &mut [i32],
     propagation: &mut [u8],
 ) -> Checked
-    requires { ⌜ Holds (now file) shape ⌝ }
-    ensures { λ r. ⌜ Refutes (circuitAt (now (file .entry)) shape) target (now (refutation .entry))
+    requires { ⌜ Given (now file) shape (now arrivals) ⌝ }
+    ensures { λ r. ⌜ Refutes (circuitAt (now (file .entry)) shape (now (arrivals .entry))) target (now (refutation .entry))
         (length (now (pairs .entry))) (length (now (formula .entry))) (length (now (propagation .entry)))
         r (now (pairs .exit)) (now (formula .exit)) (now (propagation .exit)) ⌝ }
 {
-    let built = formula::build_from(file, shape, target, pairs, formula);
+    let built = formula::build_from(file, shape, arrivals, target, pairs, formula);
     match built {
         Built::Refused(refusal) => Checked::Refused(refusal),
         Built::Formula(counts) => {
@@ -66,11 +67,12 @@ fn refutes(
     }
 }
 
-// Of an accepted file: the vector has a value for each input, there is room for values and times, and it settles at the
+// Of an accepted file and its arrivals: the vector has a value for each input, there is room for values and times, and it settles at the
 // delay; then the refutation's part, for one more than the delay.
 fn certify(
     file: &[u8],
     shape: Shape,
+    arrivals: &[u32],
     delay: u32,
     vector: &[u8],
     refutation: &[i32],
@@ -80,15 +82,15 @@ fn certify(
     formula: &mut [i32],
     propagation: &mut [u8],
 ) -> Checked
-    requires { ⌜ Holds (now file) shape ⌝ }
-    ensures { λ r. ⌜ Certified (circuitAt (now (file .entry)) shape) delay (now (vector .entry))
+    requires { ⌜ Given (now file) shape (now arrivals) ⌝ }
+    ensures { λ r. ⌜ Certified (circuitAt (now (file .entry)) shape (now (arrivals .entry))) delay (now (vector .entry))
         (now (refutation .entry))
         (roomsOf (now (values .entry)) (now (times .entry)) (now (pairs .entry)) (now (formula .entry))
         (now (propagation .entry)))
         r (now (values .exit)) (now (times .exit)) (now (pairs .exit)) (now (formula .exit))
         (now (propagation .exit)) ⌝ }
 {
-    let settled = settle::evaluate_accepted(file, shape, vector, values, times);
+    let settled = settle::evaluate_accepted(file, shape, arrivals, vector, values, times);
     match settled {
         Settled::Refused(refusal) => Checked::Refused(refusal),
         Settled::At(time) => {
@@ -96,6 +98,7 @@ fn certify(
                 return refutes(
                     file,
                     shape,
+                    arrivals,
                     delay + 1,
                     refutation,
                     pairs,
@@ -109,10 +112,11 @@ fn certify(
 }
 
 // The judgement of a certificate: a delay, a vector that settles at exactly it, and a refutation of the formula for
-// one more. Accepted means that the delay is the largest settling time of the file's netlist, whoever wrote the
-// certificate.
+// one more. Accepted means that the delay is the largest settling time of the file's netlist with these arrivals, whoever
+// wrote the certificate.
 pub fn judge(
     file: &[u8],
+    arrivals: &[u32],
     delay: u32,
     vector: &[u8],
     refutation: &[i32],
@@ -122,21 +126,22 @@ pub fn judge(
     formula: &mut [i32],
     propagation: &mut [u8],
 ) -> Checked
-    ensures { λ r. ⌜ Judges (now (file .entry)) delay (now (vector .entry)) (now (refutation .entry))
+    ensures { λ r. ⌜ Judges (now (file .entry)) (now (arrivals .entry)) delay (now (vector .entry)) (now (refutation .entry))
         (roomsOf (now (values .entry)) (now (times .entry)) (now (pairs .entry)) (now (formula .entry))
         (now (propagation .entry)))
         (leaving r (now (values .exit)) (now (times .exit)) (now (pairs .exit)) (now (formula .exit))
         (now (propagation .exit))) ⌝ }
     ensures { λ r. ⌜ (r ≡ Passes →
-        Largest (circuitOf (now (file .entry))) delay) ⌝ }
+        Largest (circuitOf (now (file .entry)) (now (arrivals .entry))) delay) ⌝ }
 {
-    let opened = netlist::open(file);
+    let opened = netlist::open_circuit(file, arrivals);
     match opened {
         Opened::Refused(refusal) => refuse(refusal, values, times, pairs, formula, propagation),
         Opened::Accepted(shape) => {
             let checked = certify(
                 file,
                 shape,
+                arrivals,
                 delay,
                 vector,
                 refutation,

@@ -13,8 +13,8 @@ use Rattle.netlist.specs.declared.Shape.{Shape}
 use Rattle.netlist.specs.declared.Opened.the-variants.{Accepted, Refused as Rejected}
 use Rattle.netlist.specs.Netlist.{nodeCount, Circuit}
 use Rattle.netlist.specs.File.{netlistAt, circuitAt}
-use Rattle.netlist.specs.Open.{openOf}
-use Rattle.netlist.specs.Holds.{Holds}
+use Rattle.netlist.specs.Open.{openCircuitOf}
+use Rattle.netlist.specs.Holds.{Given}
 use Rattle.netlist.proofs.Entries.{node-count}
 use Rattle.netlist.proofs.Calls.{call-accepted, call-rejected}
 use Rattle.clauses.specs.Clauses.{flat}
@@ -80,49 +80,53 @@ module _ (circuit : Circuit) (target pairsRoom formulaRoom : ℕ) where
 -- ---- what is lent to `emit`
 
 -- the pairs at the table's front
-pub front : (file : List ℕ) (shape : Shape) (target : ℕ) (table : List ℕ) (count : ℕ) →
-    Held (pairsAt file shape target) (length table) table (Count count) →
-    take (count * 2) table ≡ tableAt file shape target
-front file shape target table count h =
-    let l = pairsAt file shape target in
-    let f : length (flatPairs (pairsAt file shape target)) ≡ count * 2 = flat-length l ∙ omega (arith, h .0) in
+pub front : (file : List ℕ) (shape : Shape) (arrivals : List ℕ) (target : ℕ) (table : List ℕ) (count : ℕ) →
+    Held (pairsAt file shape arrivals target) (length table) table (Count count) →
+    take (count * 2) table ≡ tableAt file shape arrivals target
+front file shape arrivals target table count h =
+    let l = pairsAt file shape arrivals target in
+    let f : length (flatPairs (pairsAt file shape arrivals target)) ≡ count * 2 = flat-length l ∙ omega (arith, h .0) in
     ap (take (count * 2)) (h .2) ∙ take-at (flatPairs l) (replicate (length table - count * 2) 0) (count * 2) f
 
-module _ (file : List ℕ) (shape : Shape) (target : ℕ) (tops table : List ℕ) (e : tops ≡ topsAt file shape)
-    (f : table ≡ tableAt file shape target) where
+module _ (file : List ℕ) (shape : Shape) (arrivals : List ℕ) (target : ℕ) (tops table : List ℕ) (e : tops ≡ topsAt file shape arrivals)
+    (f : table ≡ tableAt file shape arrivals target) where
   -- is what `emit` asks
-  pub lent-ready : Holds file shape → length (pairsAt file shape target) ≤ 65536 →
+  pub lent-ready : Given file shape arrivals → length (pairsAt file shape arrivals target) ≤ 65536 →
       Slices (lent shape tops table) × AllStand file (lent shape tops table)
       × Served file (lent shape tops table) Outputs 0 (shape .outputs) target
-  lent-ready ok h =
-      rw (e, f) (slices file shape target ok h, all-stand file shape target ok, outputs-ask file shape target ok)
+  lent-ready given h =
+      rw (e, f) (
+        slices file shape arrivals target given h,
+        all-stand file shape arrivals target given,
+        outputs-ask file shape arrivals target given,
+      )
 
   -- and what it puts are the formula's numbers
   pub lent-numbers : {most : ℕ} {before after : List ℤ} {to : Emitted} →
       Emits most (wholeRun file (lent shape tops table) target) before start after to →
-      Numbered (formulaFor (circuitAt file shape) target) before after to
+      Numbered (formulaFor (circuitAt file shape arrivals) target) before after to
   lent-numbers {most} x =
-      emits-numbers (formulaFor (circuitAt file shape) target)
+      emits-numbers (formulaFor (circuitAt file shape arrivals) target)
       (emits-as most x
-      (ap₂ (λ (t b : List ℕ). wholeRun file (lent shape t b) target) e f ∙ whole-tokens file shape target)
+      (ap₂ (λ (t b : List ℕ). wholeRun file (lent shape t b) target) e f ∙ whole-tokens file shape arrivals target)
       (omega arith))
 
 -- ---- the two ends of `write`
 
-module _ (file : List ℕ) (shape : Shape) (target : ℕ) (table : List ℕ) (count : ℕ)
-    (held : Held (pairsAt file shape target) (length table) table (Count count)) (before after : List ℤ) (to : Emitted)
-    (n : Numbered (formulaFor (circuitAt file shape) target) before after to)
+module _ (file : List ℕ) (shape : Shape) (arrivals : List ℕ) (target : ℕ) (table : List ℕ) (count : ℕ)
+    (held : Held (pairsAt file shape arrivals target) (length table) table (Count count)) (before after : List ℤ) (to : Emitted)
+    (n : Numbered (formulaFor (circuitAt file shape arrivals) target) before after to)
     (same : length after ≡ length before) where
-  room-held : length (pairsAt file shape target) ≤ tableHolds (length table)
+  room-held : length (pairsAt file shape arrivals target) ≤ tableHolds (length table)
   room-held = omega (arith, held .0, held .1)
 
   pub wrote-none : (pairs : List ℕ) (formula : List ℤ) → length after < to .numbers →
       pairs ≡ replicate (length table) 0 → formula ≡ replicate (length after) (pos 0) →
-      Meets (buildingOf (circuitAt file shape) target (length table) (length before)) (Refused (Room (to .numbers)))
+      Meets (buildingOf (circuitAt file shape arrivals) target (length table) (length before)) (Refused (Room (to .numbers)))
       pairs formula
   unfolding numbersFor
   wrote-none pairs formula h e f =
-      rw (no-room (circuitAt file shape) target (length table) (length before) room-held (omega (arith, n .numbers)))
+      rw (no-room (circuitAt file shape arrivals) target (length table) (length before) room-held (omega (arith, n .numbers)))
       (record {
         answer-is = ap (λ (m : ℕ). Refused (Room m)) (n .numbers);
         pairs-are = e;
@@ -131,7 +135,7 @@ module _ (file : List ℕ) (shape : Shape) (target : ℕ) (table : List ℕ) (co
 
   pub wrote-all : (formula : List ℤ) → to .numbers ≤ length after →
       formula ≡ take (to .numbers) after ++ replicate (length after - to .numbers) (pos 0) →
-      Meets (buildingOf (circuitAt file shape) target (length table) (length before))
+      Meets (buildingOf (circuitAt file shape arrivals) target (length table) (length before))
       (Formula (record {
         variables = shape .inputs + shape .gates + count;
         pairs = count;
@@ -140,8 +144,8 @@ module _ (file : List ℕ) (shape : Shape) (target : ℕ) (table : List ℕ) (co
       })) table formula
   unfolding numbersFor countsFor built
   wrote-all formula h f =
-      let l = pairsAt file shape target in
-      let cs = formulaFor (circuitAt file shape) target in
+      let l = pairsAt file shape arrivals target in
+      let cs = formulaFor (circuitAt file shape arrivals) target in
       let made : ℕ → ℕ → ℕ → ℕ → Counts =
       λ a b c d. record { variables = a; pairs = b; clauses = c; numbers = d }
       in
@@ -149,7 +153,7 @@ module _ (file : List ℕ) (shape : Shape) (target : ℕ) (table : List ℕ) (co
       omega (arith, held .0, node-count file shape)
       in
       let r : length after - to .numbers ≡ length before - length (flat cs) = omega (arith, n .numbers) in
-      rw (all-room (circuitAt file shape) target (length table) (length before) room-held (omega (arith, n .numbers)))
+      rw (all-room (circuitAt file shape arrivals) target (length table) (length before) room-held (omega (arith, n .numbers)))
       (record {
         answer-is =
             ap Formula
@@ -176,35 +180,37 @@ pub held-again : (l : List (ℕ × ℕ)) (room : ℕ) (table : List ℕ) (listed
 held-again l room table listed count h e =
     rw (held-length l room table listed count h e) (held-count l room table listed count h e)
 
--- the same promise by the numbers that the caller knows
-pub meets-as : (circuit : Circuit) (formulaRoom : ℕ) {wanted target long room : ℕ} {answer : Built} {pairs : List ℕ}
-    {formula : List ℤ} → wanted ≡ target → long ≡ room →
-    Meets (buildingOf circuit wanted long formulaRoom) answer pairs formula →
-    Meets (buildingOf circuit target room formulaRoom) answer pairs formula
-meets-as circuit formulaRoom {answer = answer} {pairs = pairs} {formula = formula} e f m =
+-- the same promise by the arrivals and the numbers that the caller knows
+pub meets-as : (file : List ℕ) (shape : Shape) (formulaRoom : ℕ) {read arrivals : List ℕ} {wanted target long room : ℕ}
+    {answer : Built} {pairs : List ℕ} {formula : List ℤ} → read ≡ arrivals → wanted ≡ target → long ≡ room →
+    Meets (buildingOf (circuitAt file shape read) wanted long formulaRoom) answer pairs formula →
+    Meets (buildingOf (circuitAt file shape arrivals) target room formulaRoom) answer pairs formula
+meets-as file shape formulaRoom {arrivals = arrivals} {wanted} {long = long} {answer = answer} {pairs = pairs}
+    {formula = formula} a e f m =
     subst (λ (b : Building). Meets b answer pairs formula)
-    (ap₂ (λ (t r : ℕ). buildingOf circuit t r formulaRoom) e f) m
+    (ap (λ (l : List ℕ). buildingOf (circuitAt file shape l) wanted long formulaRoom) a
+    ∙ ap₂ (λ (t r : ℕ). buildingOf (circuitAt file shape arrivals) t r formulaRoom) e f) m
 
-pub listed-none : (file : List ℕ) (shape : Shape) (target pairsRoom formulaRoom : ℕ) (pairs : List ℕ) (formula : List ℤ)
-    (listed : Listed) → Held (pairsAt file shape target) pairsRoom pairs listed → listed ≡ TooMany →
+pub listed-none : (file : List ℕ) (shape : Shape) (arrivals : List ℕ) (target pairsRoom formulaRoom : ℕ)
+    (pairs : List ℕ) (formula : List ℤ) (listed : Listed) → Held (pairsAt file shape arrivals target) pairsRoom pairs listed → listed ≡ TooMany →
     formula ≡ replicate formulaRoom (pos 0) →
-    Meets (buildingOf (circuitAt file shape) target pairsRoom formulaRoom) (Refused Pairs) pairs formula
-listed-none file shape target pairsRoom formulaRoom pairs formula listed h e f =
-    let w = held-too-many (pairsAt file shape target) pairsRoom pairs listed h e in
-    rw (too-many (circuitAt file shape) target pairsRoom formulaRoom (w .0))
+    Meets (buildingOf (circuitAt file shape arrivals) target pairsRoom formulaRoom) (Refused Pairs) pairs formula
+listed-none file shape arrivals target pairsRoom formulaRoom pairs formula listed h e f =
+    let w = held-too-many (pairsAt file shape arrivals target) pairsRoom pairs listed h e in
+    rw (too-many (circuitAt file shape arrivals) target pairsRoom formulaRoom (w .0))
     (record { answer-is = refl; pairs-are = w .1; formula-is = f })
 
-module _ (file : List ℕ) (target pairsRoom formulaRoom : ℕ) where
-  pub of-accepted : (shape : Shape) → openOf file ≡ Accepted shape →
-      building file target pairsRoom formulaRoom ≡ buildingOf (circuitAt file shape) target pairsRoom formulaRoom
+module _ (file arrivals : List ℕ) (target pairsRoom formulaRoom : ℕ) where
+  pub of-accepted : (shape : Shape) → openCircuitOf file arrivals ≡ Accepted shape →
+      building file arrivals target pairsRoom formulaRoom ≡ buildingOf (circuitAt file shape arrivals) target pairsRoom formulaRoom
   unfolding building buildingOf
   of-accepted shape e =
-      call-accepted file (λ circuit. buildingRows circuit target pairsRoom formulaRoom) (refused pairsRoom formulaRoom)
+      call-accepted file arrivals (λ circuit. buildingRows circuit target pairsRoom formulaRoom) (refused pairsRoom formulaRoom)
       (λ circuit. built circuit target pairsRoom formulaRoom) e
 
-  pub of-rejected : (refusal : Refusal) → openOf file ≡ Rejected refusal →
-      building file target pairsRoom formulaRoom ≡ refused pairsRoom formulaRoom refusal
+  pub of-rejected : (refusal : Refusal) → openCircuitOf file arrivals ≡ Rejected refusal →
+      building file arrivals target pairsRoom formulaRoom ≡ refused pairsRoom formulaRoom refusal
   unfolding building
   of-rejected refusal e =
-      call-rejected file (λ circuit. buildingRows circuit target pairsRoom formulaRoom) (refused pairsRoom formulaRoom)
+      call-rejected file arrivals (λ circuit. buildingRows circuit target pairsRoom formulaRoom) (refused pairsRoom formulaRoom)
       (λ circuit. built circuit target pairsRoom formulaRoom) e

@@ -5,15 +5,16 @@ use mathlib.Core.List.{List, List·Memᴰ}
 use Prim.Native.Nat.{ℕ, _+_, _-_, _*_, _/_, _≤_, _<_}
 use native.Mathlib.Omega.{arith}
 use native.Mathlib.Decide.{decLt}
-use lib.ListN.{length, getD, length-replicate}
+use lib.ListN.{length, getD}
 use lib.Seq.{take-all}
 use Rattle.netlist.specs.declared.Shape.{Shape}
 use Rattle.netlist.specs.Netlist.{nodes}
 use Rattle.netlist.specs.File.{firstAt, countAt, driverAt, delayAt, outputAt, pinAt, cellAt, netlistAt, circuitAt}
-use Rattle.netlist.specs.Holds.{Holds}
+use Rattle.netlist.specs.Holds.{Given}
 use Rattle.netlist.proofs.Entries.{node-count, node-has, pin-has, output-has}
 use Rattle.settle.specs.Settling.{topsOf}
 use Rattle.settle.proofs.Nodes.{tops-length}
+use Rattle.settle.proofs.Gates.{net-arrives}
 use Rattle.pairs.specs.Pairs.{flatPairs, pairPlace}
 use Rattle.pairs.specs.Table.{pairAt, keyOf, Sorted}
 use Rattle.pairs.specs.Promise.{pairsAt, Lists}
@@ -24,17 +25,17 @@ use Rattle.pairs.proofs.Whole.{lists-for}
 use Rattle.formula.specs.declared.Side.the-variants.{Pins, Outputs}
 use Rattle.formula.specs.Late.{Lent, lent, Asking, Served, AllStand, Slices}
 
--- the tops of an accepted file
-abbrev pub topsAt : List ℕ → Shape → List ℕ
-topsAt file shape = topsOf (circuitAt file shape)
+-- the tops of an accepted file with the arrivals of its inputs
+abbrev pub topsAt : List ℕ → Shape → List ℕ → List ℕ
+topsAt file shape arrivals = topsOf (circuitAt file shape arrivals)
 
 -- the numbers of its pairs
-abbrev pub tableAt : List ℕ → Shape → ℕ → List ℕ
-tableAt file shape target = flatPairs (pairsAt file shape target)
+abbrev pub tableAt : List ℕ → Shape → List ℕ → ℕ → List ℕ
+tableAt file shape arrivals target = flatPairs (pairsAt file shape arrivals target)
 
 -- both
-abbrev pub lentAt : List ℕ → Shape → ℕ → Lent
-lentAt file shape target = lent shape (topsAt file shape) (tableAt file shape target)
+abbrev pub lentAt : List ℕ → Shape → List ℕ → ℕ → Lent
+lentAt file shape arrivals target = lent shape (topsAt file shape arrivals) (tableAt file shape arrivals target)
 
 -- each pair of a sorted list has its own place
 own-place : (l : List (ℕ × ℕ)) → Sorted l → (k : ℕ) → k < length l →
@@ -55,39 +56,37 @@ own-place l s k h = go (pairPlace (pairAt l k .0) (pairAt l k .1) l) below same 
     go j b e (no x) (yes y) = absurd (omega (arith, s .up k j y b, e))
     go j b e (no x) (no y) = omega arith
 
-module _ (file : List ℕ) (shape : Shape) (target : ℕ) (ok : Holds file shape) where
-  half : length (tableAt file shape target) / 2 ≡ length (pairsAt file shape target)
-  half = let e = flat-length (pairsAt file shape target) in omega arith
+module _ (file : List ℕ) (shape : Shape) (arrivals : List ℕ) (target : ℕ) (given : Given file shape arrivals) where
+  half : length (tableAt file shape arrivals target) / 2 ≡ length (pairsAt file shape arrivals target)
+  half = let e = flat-length (pairsAt file shape arrivals target) in omega arith
 
-  lists : Lists (tableAt file shape target) (length (tableAt file shape target) / 2) (pairsAt file shape target)
+  lists : Lists (tableAt file shape arrivals target) (length (tableAt file shape arrivals target) / 2) (pairsAt file shape arrivals target)
   lists =
-      let e = flat-length (pairsAt file shape target) in
-      lists-for target (tableAt file shape target) (length (tableAt file shape target) / 2) ok half
-      (take-all (length (tableAt file shape target) / 2 * 2) (tableAt file shape target) (omega arith))
+      let e = flat-length (pairsAt file shape arrivals target) in
+      lists-for target (tableAt file shape arrivals target) (length (tableAt file shape arrivals target) / 2) given half
+      (take-all (length (tableAt file shape arrivals target) / 2 * 2) (tableAt file shape arrivals target) (omega arith))
 
-  all-tops : length (topsAt file shape) ≡ shape .inputs + shape .gates
+  all-tops : length (topsAt file shape arrivals) ≡ shape .inputs + shape .gates
   all-tops =
-      tops-length (circuitAt file shape)
-      (length-replicate (netlistAt file shape .inputs) 0)
-      ∙ node-count file shape
+      tops-length (circuitAt file shape arrivals) (net-arrives file (given .arrived)) ∙ node-count file shape
 
   asking : (node t : ℕ) → node < shape .inputs + shape .gates →
-      (shape .inputs ≤ node → 0 < t → t ≤ getD (topsAt file shape) node 0 →
-      List·Memᴰ (node, t) (pairsAt file shape target)) →
-      Asking (lentAt file shape target) node t
+      (shape .inputs ≤ node → 0 < t → t ≤ getD (topsAt file shape arrivals) node 0 →
+      List·Memᴰ (node, t) (pairsAt file shape arrivals target)) →
+      Asking (lentAt file shape arrivals target) node t
   asking node t h m =
       record {
         node-has = omega (arith, all-tops);
-        listed = λ a b c. record { pairs = pairsAt file shape target; lists = lists; here = m a b c };
+        listed = λ a b c. record { pairs = pairsAt file shape arrivals target; lists = lists; here = m a b c };
       }
 
   -- ---- a pair
 
-  module _ (f t : ℕ) (m : List·Memᴰ (f, t) (pairsAt file shape target)) where
+  module _ (f t : ℕ) (m : List·Memᴰ (f, t) (pairsAt file shape arrivals target)) where
     within : (shape .inputs ≤ f) × (f < shape .inputs + shape .gates)
     unfolding netlistAt
     within =
-        let w = pair-for (circuitAt file shape) (ok .valid) target f t m in
+        let w = pair-for (circuitAt file shape arrivals) (given .holds .valid) target f t m in
         let n = node-count file shape in
         (w .0, omega (arith, w .1))
 
@@ -100,30 +99,30 @@ module _ (file : List ℕ) (shape : Shape) (target : ℕ) (ok : Holds file shape
         subst (λ (n : ℕ). List·Memᴰ (n, cellAt file shape (f - shape .inputs)) (nodes (netlistAt file shape))) e
         (node-has file shape (f - shape .inputs) gate-here)
 
-    drivers : Served file (lentAt file shape target) Pins (firstAt file shape (f - shape .inputs))
+    drivers : Served file (lentAt file shape arrivals target) Pins (firstAt file shape (f - shape .inputs))
         (countAt file shape (f - shape .inputs)) t
     unfolding netlistAt pinAt
     drivers =
         let net = netlistAt file shape in
         let g = f - shape .inputs in
         record {
-          within = ok .pins-within g gate-here;
+          within = given .holds .pins-within g gate-here;
           asks =
               λ pin l h.
-              let b = ok .drivers-below g pin gate-here l h in
+              let b = given .holds .drivers-below g pin gate-here l h in
               asking (driverAt file shape pin) (t - delayAt file shape pin) (omega (arith, gate-here))
               (λ x y z.
-              driver-for (circuitAt file shape) (ok .valid) target f (cellAt file shape g) cell-here t m
+              driver-for (circuitAt file shape arrivals) (given .holds .valid) target f (cellAt file shape g) cell-here t m
               (pinAt file shape pin) (pin-has file shape g pin l h) x y z);
         }
 
-  pub all-stand : AllStand file (lentAt file shape target)
+  pub all-stand : AllStand file (lentAt file shape arrivals target)
   all-stand =
       record {
         stands =
             λ k h.
-            let l = pairsAt file shape target in
-            let b : k < length (pairsAt file shape target) = omega (arith, half) in
+            let l = pairsAt file shape arrivals target in
+            let b : k < length (pairsAt file shape arrivals target) = omega (arith, half) in
             let m = mem-at (0, 0) l k b in
             rw (pairs-flat l)
             (record {
@@ -134,7 +133,7 @@ module _ (file : List ℕ) (shape : Shape) (target : ℕ) (ok : Holds file shape
             });
       }
 
-  pub outputs-ask : Served file (lentAt file shape target) Outputs 0 (shape .outputs) target
+  pub outputs-ask : Served file (lentAt file shape arrivals target) Outputs 0 (shape .outputs) target
   unfolding netlistAt
   outputs-ask =
       let net = netlistAt file shape in
@@ -143,18 +142,18 @@ module _ (file : List ℕ) (shape : Shape) (target : ℕ) (ok : Holds file shape
         asks =
             λ position low high.
             let h : position < shape .outputs = omega arith in
-            asking (outputAt file shape position) target (ok .outputs-nodes position h)
+            asking (outputAt file shape position) target (given .holds .outputs-nodes position h)
             (λ x y z.
-            output-for (circuitAt file shape) (ok .valid) target (outputAt file shape position)
+            output-for (circuitAt file shape arrivals) (given .holds .valid) target (outputAt file shape position)
             (output-has file shape position h) x y z);
       }
 
-  pub slices : length (pairsAt file shape target) ≤ 65536 →
-      Slices (lentAt file shape target)
+  pub slices : length (pairsAt file shape arrivals target) ≤ 65536 →
+      Slices (lentAt file shape arrivals target)
   slices h =
       record {
-        nodes-few = omega (arith, ok .counts .inputs-few, ok .counts .gates-few);
+        nodes-few = omega (arith, given .holds .counts .inputs-few, given .holds .counts .gates-few);
         tops-all = all-tops;
-        pairs-few = omega (arith, flat-length (pairsAt file shape target));
+        pairs-few = omega (arith, flat-length (pairsAt file shape arrivals target));
         sorted = lists-sorted lists;
       }

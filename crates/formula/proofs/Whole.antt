@@ -128,20 +128,20 @@ by-gate {A} {B} F f n a (suc k) =
 
 -- ---- the formula of an accepted file
 
-module _ (file : List ℕ) (shape : Shape) (target : ℕ) where
+module _ (file : List ℕ) (shape : Shape) (arrivals : List ℕ) (target : ℕ) where
   -- a pair's variable by the table
-  variables : variableIn (lentAt file shape target)
-      ≡ pairVariable (circuitAt file shape) target
+  variables : variableIn (lentAt file shape arrivals target)
+      ≡ pairVariable (circuitAt file shape arrivals) target
   unfolding variableIn pairVariable
   variables =
       let after : ℕ → List (ℕ × ℕ) → ℕ → ℕ → ℕ = λ n l f t. suc (n + pairPlace f t l) in
-      ap₂ after (sym (node-count file shape)) (pairs-flat (pairsAt file shape target))
+      ap₂ after (sym (node-count file shape)) (pairs-flat (pairsAt file shape arrivals target))
 
   -- a gate and a time
   abbrev ofGate : ℕ × Cell → ℕ → List (List Literal)
   ofGate x =
-      pairClauses (shape .inputs) (topOf (circuitAt file shape)) nodeVariable
-      (variableIn (lentAt file shape target)) (x .0) (x .1 .kind) (x .1 .pins)
+      pairClauses (shape .inputs) (topOf (circuitAt file shape arrivals)) nodeVariable
+      (variableIn (lentAt file shape arrivals target)) (x .0) (x .1 .kind) (x .1 .pins)
 
   -- a pair of the table, by its node's gate
   abbrev ofPair : ℕ × ℕ → List (List Literal)
@@ -158,29 +158,29 @@ module _ (file : List ℕ) (shape : Shape) (target : ℕ) where
   ofPairs =
       let net = netlistAt file shape in
       concatMap (λ x. concatMap (ofGate x)
-      (timesAt (net .inputs) (topOf (circuitAt file shape)) (net .outputs) target (net .gates) (x .0))) (nodes net)
+      (timesAt (net .inputs) (topOf (circuitAt file shape arrivals)) (net .outputs) target (net .gates) (x .0))) (nodes net)
 
-  pairs-put : concatMap (pairRun file (lentAt file shape target)) (upFrom 0 (pairsCount (lentAt file shape target)))
+  pairs-put : concatMap (pairRun file (lentAt file shape arrivals target)) (upFrom 0 (pairsCount (lentAt file shape arrivals target)))
       ≡ tokensOf ofPairs
   unfolding pairsFor pairList
   pairs-put =
       let net = netlistAt file shape in
-      let times = timesAt (net .inputs) (topOf (circuitAt file shape)) (net .outputs) target (net .gates) in
-      let pairs = pairsAt file shape target in
-      by-number (runOf file (lentAt file shape target)) (0, 0) (pairsIn (tableAt file shape target))
-      (pairsCount (lentAt file shape target)) (sym (pairs-length (tableAt file shape target)))
-      ∙ ap (concatMap (runOf file (lentAt file shape target))) (pairs-flat pairs)
+      let times = timesAt (net .inputs) (topOf (circuitAt file shape arrivals)) (net .outputs) target (net .gates) in
+      let pairs = pairsAt file shape arrivals target in
+      by-number (runOf file (lentAt file shape arrivals target)) (0, 0) (pairsIn (tableAt file shape arrivals target))
+      (pairsCount (lentAt file shape arrivals target)) (sym (pairs-length (tableAt file shape arrivals target)))
+      ∙ ap (concatMap (runOf file (lentAt file shape arrivals target))) (pairs-flat pairs)
       ∙ runs pairs
       ∙ sym (tokens-concatMap ofPair pairs)
       ∙ ap tokensOf (sym (each-pair times ofGate ofPair (nodes net) same-pair))
     where
       runs : (ps : List (ℕ × ℕ)) →
-          concatMap (runOf file (lentAt file shape target)) ps ≡ concatMap (λ x. tokensOf (ofPair x)) ps
+          concatMap (runOf file (lentAt file shape arrivals target)) ps ≡ concatMap (λ x. tokensOf (ofPair x)) ps
       runs [] = refl
       runs (x ∷ ps) =
           let cell = cellAt file shape (x .0 - shape .inputs) in
           ap₂ (λ (a b : List Token). a ++ b)
-          (pair-tokens (lentAt file shape target) (x .0) (cell .kind) (cell .pins) (x .1)) (runs ps)
+          (pair-tokens (lentAt file shape arrivals target) (x .0) (cell .kind) (cell .pins) (x .1)) (runs ps)
 
   -- the gates' clauses, gate by gate
   gates-put : concatMap (gateRun file shape) (upFrom 0 (shape .gates))
@@ -195,14 +195,14 @@ module _ (file : List ℕ) (shape : Shape) (target : ℕ) where
       (nodes (netlistAt file shape)))
 
   -- 1, 2 and 3 in order
-  pub whole-tokens : wholeRun file (lentAt file shape target) target
-      ≡ tokensOf (formulaFor (circuitAt file shape) target)
+  pub whole-tokens : wholeRun file (lentAt file shape arrivals target) target
+      ≡ tokensOf (formulaFor (circuitAt file shape arrivals) target)
   unfolding formulaFor formula netlistAt
   whole-tokens =
       let net = netlistAt file shape in
-      let top = topOf (circuitAt file shape) in
+      let top = topOf (circuitAt file shape arrivals) in
       let times = timesAt (net .inputs) top (net .outputs) target (net .gates) in
-      let v = variableIn (lentAt file shape target) in
+      let v = variableIn (lentAt file shape arrivals target) in
       let ofCells : List (List Literal) =
       concatMap (λ x. gateClauses nodeVariable (x .1 .kind) (x .1 .pins) (x .0)) (nodes net) in
       let last : List (List Literal) =

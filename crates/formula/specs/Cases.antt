@@ -11,6 +11,7 @@ use Rattle.netlist.specs.Kinds.{kinds, kindRow}
 use Rattle.netlist.specs.File.{tableBytes, shapeOf, gateAt, pinAt, cellOf, cellAt, netlistAt, pinsFrom}
 use Rattle.netlist.specs.Open.{
   netlistRows,
+  arrivalRows,
   firstWrong,
   countWrong,
   backWrong,
@@ -110,10 +111,10 @@ cases =
     ∷ []
 
 -- the promise of `build` says so in each row
-pub hold : map (λ (c : Case). building circuitA (c .target) (c .pairsRoom) (c .formulaRoom)) cases
+pub hold : map (λ (c : Case). building circuitA (0 ∷ 0 ∷ []) (c .target) (c .pairsRoom) (c .formulaRoom)) cases
     ≡ map (λ (c : Case). c .leaves) cases
 unfolding
-    circuitA netlistRows firstWrong countWrong backWrong pinsBefore gateWrong gatePlace sumWrong pinsAt pinWrong
+    circuitA netlistRows arrivalRows firstWrong countWrong backWrong pinsBefore gateWrong gatePlace sumWrong pinsAt pinWrong
     pinPlace outputWrong outputPlace kinds kindRow tableBytes shapeOf gateAt pinAt pinsFrom cellOf cellAt
     netlistAt grow topsOf flat asked timesAt pairList flatPairs pairsFor pairPlace clauseOf gateClauses late pairClauses
     formula pairVariable formulaFor numbersFor countsFor built buildingRows building printed gateLines cases

@@ -8,11 +8,12 @@ use lib.IntN.{ℤ, pos, negsuc}
 use lib.ListN.{length, replicate}
 use Rattle.basics.specs.Lists.{concatMap}
 use Rattle.refusal.specs.declared.Refusal.{Refusal}
-use Rattle.refusal.specs.declared.Refusal.the-variants.{Short, Gate, Pairs, Room}
+use Rattle.refusal.specs.declared.Refusal.the-variants.{Short, Gate, Output, Arrival, Pairs, Room}
 use Rattle.netlist.specs.Kinds.{kinds, kindRow}
-use Rattle.netlist.specs.File.{tableBytes, shapeOf, gateAt, pinAt, cellOf, cellAt, netlistAt, pinsFrom}
+use Rattle.netlist.specs.File.{inputs, tableBytes, shapeOf, gateAt, pinAt, cellOf, cellAt, netlistAt, pinsFrom}
 use Rattle.netlist.specs.Open.{
   netlistRows,
+  arrivalRows,
   firstWrong,
   countWrong,
   backWrong,
@@ -46,9 +47,10 @@ use Rattle.formula.specs.Promise.{
 use Rattle.formula.specs.Example.{printed}
 use Rattle.formula.specs.Cases.{gateLines}
 
--- a row: a file, a target, and what a call leaves, whose slices are as long as those lent
+-- a row: a file, the arrivals of its inputs, a target, and what a call leaves, whose slices are as long as those lent
 pub record Case : Type 0 where
   pub file : List ℕ
+  pub arrivals : List ℕ
   pub target : ℕ
   pub leaves : Building
 
@@ -64,11 +66,12 @@ off zero = pos 0
 abbrev lines : List (List ℤ) → List ℤ
 lines clauses = concatMap (λ (c : List ℤ). c ++ (pos 0 ∷ [])) clauses
 
--- file, target; variables, count of clauses, the table of pairs, the numbers
-abbrev builds : List ℕ → ℕ → ℕ → ℕ → List ℕ → List ℤ → Case
-builds file target variables clauses pairs numbers =
+-- file, arrivals, target; variables, count of clauses, the table of pairs, the numbers
+abbrev buildsWith : List ℕ → List ℕ → ℕ → ℕ → ℕ → List ℕ → List ℤ → Case
+buildsWith file arrivals target variables clauses pairs numbers =
     record {
       file = file;
+      arrivals = arrivals;
       target = target;
       leaves =
           record {
@@ -85,10 +88,22 @@ builds file target variables clauses pairs numbers =
           };
     }
 
--- file, target, the two rooms, and the refusal
+-- file, arrivals, target, the two rooms, and the refusal
+abbrev refusesWith : List ℕ → List ℕ → ℕ → ℕ → ℕ → Refusal → Case
+refusesWith file arrivals target pairsRoom formulaRoom refusal =
+    record {
+      file = file;
+      arrivals = arrivals;
+      target = target;
+      leaves = refused pairsRoom formulaRoom refusal;
+    }
+
+-- all inputs at 0
+abbrev builds : List ℕ → ℕ → ℕ → ℕ → List ℕ → List ℤ → Case
+builds file = buildsWith file (replicate (inputs file) 0)
+
 abbrev refuses : List ℕ → ℕ → ℕ → ℕ → Refusal → Case
-refuses file target pairsRoom formulaRoom refusal =
-    record { file = file; target = target; leaves = refused pairsRoom formulaRoom refusal }
+refuses file = refusesWith file (replicate (inputs file) 0)
 
 -- a simple gate of two pins, ready at 2 and 1, at its top: three clauses, then the second pin's, which is not late; the
 -- first pin is late outright
@@ -154,17 +169,34 @@ orders =
     ∷ refuses circuitA 0 0 25 (Room 26)
     ∷ refuses circuitA 6 0 26 (Room 27) ∷ []
 
+-- late inputs. Circuit A with b at 4, at its top: b is late at 4 outright, and not at 5. An input that is the output and
+-- arrives at 7: late outright at 7, and not at 8. Then 16, behind 7 and before 10 and 9
+unfoldable pub lateInputs : List Case
+lateInputs =
+    buildsWith circuitA (0 ∷ 4 ∷ []) 6 7 13 (3 ∷ 5 ∷ 4 ∷ 6 ∷ [])
+    (gateLines
+    ++ lines
+    ((off 6 ∷ on 3 ∷ []) ∷ (off 7 ∷ on 6 ∷ []) ∷ (off 7 ∷ on 6 ∷ off 4 ∷ []) ∷ (off 7 ∷ off 2 ∷ [])
+    ∷ (on 7 ∷ []) ∷ []))
+    ∷ buildsWith (written 1 [] [] (0 ∷ [])) (7 ∷ []) 7 1 0 [] []
+    ∷ buildsWith (written 1 [] [] (0 ∷ [])) (7 ∷ []) 8 1 1 [] (pos 0 ∷ [])
+    ∷ refusesWith circuitA (0 ∷ []) 3 0 0 (Arrival 2)
+    ∷ refusesWith circuitA (0 ∷ 10000 ∷ []) 3 0 0 (Arrival 1)
+    ∷ refusesWith (written 1 [] [] (1 ∷ [])) [] 3 0 0 (Output 0)
+    ∷ refusesWith circuitA (0 ∷ 9999 ∷ []) 3 0 0 Pairs ∷ []
+
 -- all of them
 unfoldable pub edges : List Case
-edges = everyKind ++ (targets ++ orders)
+edges = everyKind ++ (targets ++ (orders ++ lateInputs))
 
 -- each call leaves so
 pub edges-hold :
     map
-    (λ (c : Case). building (c .file) (c .target) (length (c .leaves .pairs)) (length (c .leaves .formula))) edges
+    (λ (c : Case).
+    building (c .file) (c .arrivals) (c .target) (length (c .leaves .pairs)) (length (c .leaves .formula))) edges
     ≡ map (λ (c : Case). c .leaves) edges
 unfolding
-    edges everyKind targets orders written oneGate circuitA xorTwice muxOfThree netlistRows firstWrong countWrong
+    edges everyKind targets orders lateInputs written oneGate circuitA xorTwice muxOfThree netlistRows arrivalRows firstWrong countWrong
     backWrong pinsBefore gateWrong gatePlace sumWrong pinsAt pinWrong pinPlace outputWrong outputPlace kinds kindRow
     tableBytes shapeOf gateAt pinAt pinsFrom cellOf cellAt netlistAt grow topsOf flat asked timesAt pairList flatPairs
     pairsFor pairPlace clauseOf gateClauses late pairClauses formula pairVariable formulaFor numbersFor countsFor

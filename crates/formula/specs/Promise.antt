@@ -1,4 +1,4 @@
--- What `build` answers and leaves in the two lent slices, for every input: 1..7, 10, then 9 for the formula.
+-- What `build` answers and leaves in the two lent slices, for every input: 1..7, 16, 10, then 9 for the formula.
 -- Interface: building, Meets.
 use mathlib.Core.Path.{_≡_}
 use mathlib.Core.List.{List, [], _∷_, _++_}
@@ -72,8 +72,8 @@ buildingOf circuit target pairsRoom formulaRoom =
     unlessRefused (checked (buildingRows circuit target pairsRoom formulaRoom)) (refused pairsRoom formulaRoom)
     (built circuit target pairsRoom formulaRoom)
 
--- of any bytes and any target, with room for so many numbers in the table and the formula
-unfoldable pub building : List ℕ → ℕ → ℕ → ℕ → Building
-building file target pairsRoom formulaRoom =
-    callOver file (λ circuit. buildingRows circuit target pairsRoom formulaRoom) (refused pairsRoom formulaRoom)
+-- of any bytes, any arrivals and any target, with room for so many numbers in the table and the formula
+unfoldable pub building : List ℕ → List ℕ → ℕ → ℕ → ℕ → Building
+building file arrivals target pairsRoom formulaRoom =
+    callOver file arrivals (λ circuit. buildingRows circuit target pairsRoom formulaRoom) (refused pairsRoom formulaRoom)
     (λ circuit. built circuit target pairsRoom formulaRoom)

@@ -11,7 +11,7 @@ ghost use Prim.Native.Nat.{_+_, _-_, _*_, _/_, _≤_, _<_};
 ghost use lib.ListN.{length, getD, set, take};
 ghost use Rattle.basics.specs.Lists.{concatMap, upFrom};
 ghost use Rattle.netlist.specs.File.{netlistAt, pinsFrom, circuitAt};
-ghost use Rattle.netlist.specs.Holds.{Holds, Tables};
+ghost use Rattle.netlist.specs.Holds.{Holds, Tables, Given};
 ghost use Rattle.pairs.specs.Promise.{Tops, pairsAt, Held, Findable, Bounds};
 ghost use Rattle.pairs.specs.Table.{pairsIn};
 ghost use Rattle.pairs.specs.declared.Listed.the-variants.{Count};
@@ -816,7 +816,8 @@ fn emit(
     output_clause(file, shape, tops, table, &starts, target, formula, pairs)
 }
 
-// The formula of an accepted file whose tops and pairs are known; 9 where it has no room.
+// The formula of an accepted file whose tops and pairs are known; 9 where it has no room. The arrivals are the inputs'
+// tops.
 fn write(
     file: &[u8],
     shape: Shape,
@@ -827,12 +828,14 @@ fn write(
     formula: &mut [i32],
 ) -> Built
     requires { ⌜
-        Holds (now file) shape × Tops (now file) shape (now tops) × Held (pairsAt (now file) shape target)
-        (length (now pairs)) (now pairs) (Count count)
+        Given (now file) shape (take (shape .inputs) (now tops))
+        × Tops (now file) shape (take (shape .inputs) (now tops)) (now tops)
+        × Held (pairsAt (now file) shape (take (shape .inputs) (now tops)) target) (length (now pairs)) (now pairs)
+        (Count count)
         ⌝ }
     ensures { λ r. ⌜
-        Meets (buildingOf (circuitAt (now (file .entry)) shape) target (length (now (pairs .entry)))
-        (length (now (formula .entry)))) r (now (pairs .exit)) (now (formula .exit))
+        Meets (buildingOf (circuitAt (now (file .entry)) shape (take (shape .inputs) (now (tops .entry)))) target
+        (length (now (pairs .entry))) (length (now (formula .entry)))) r (now (pairs .exit)) (now (formula .exit))
         ⌝ }
 {
     let nodes = shape.inputs + shape.gates;
@@ -859,22 +862,23 @@ fn write(
     })
 }
 
-// The formula for a target, of an accepted file.
+// The formula for a target, of an accepted file and its arrivals.
 pub fn build_from(
     file: &[u8],
     shape: Shape,
+    arrivals: &[u32],
     target: u32,
     pairs: &mut [u32],
     formula: &mut [i32],
 ) -> Built
-    requires { ⌜ Holds (now file) shape ⌝ }
+    requires { ⌜ Given (now file) shape (now arrivals) ⌝ }
     ensures { λ r. ⌜
-        Meets (buildingOf (circuitAt (now (file .entry)) shape) target (length (now (pairs .entry)))
-        (length (now (formula .entry)))) r (now (pairs .exit)) (now (formula .exit))
+        Meets (buildingOf (circuitAt (now (file .entry)) shape (now (arrivals .entry))) target
+        (length (now (pairs .entry))) (length (now (formula .entry)))) r (now (pairs .exit)) (now (formula .exit))
         ⌝ }
 {
     let mut tops = [0u32; 512];
-    pairs::tops(file, shape, &mut tops);
+    pairs::tops(file, shape, arrivals, &mut tops);
     let wanted = lent::widen(target);
     let listed = pairs::table(file, shape, wanted, &tops, pairs);
     match listed {
@@ -888,17 +892,23 @@ pub fn build_from(
     }
 }
 
-// The formula for a target, of any bytes.
-pub fn build(file: &[u8], target: u32, pairs: &mut [u32], formula: &mut [i32]) -> Built
+// The formula for a target, of any bytes and any arrivals.
+pub fn build(
+    file: &[u8],
+    arrivals: &[u32],
+    target: u32,
+    pairs: &mut [u32],
+    formula: &mut [i32],
+) -> Built
     ensures { λ r. ⌜
-        Meets (building (now (file .entry)) target (length (now (pairs .entry)))
+        Meets (building (now (file .entry)) (now (arrivals .entry)) target (length (now (pairs .entry)))
         (length (now (formula .entry)))) r (now (pairs .exit)) (now (formula .exit))
         ⌝ }
 {
-    let opened = netlist::open(file);
+    let opened = netlist::open_circuit(file, arrivals);
     match opened {
         netlist::Opened::Accepted(shape) => {
-            return build_from(file, shape, target, pairs, formula);
+            return build_from(file, shape, arrivals, target, pairs, formula);
         }
         netlist::Opened::Refused(refusal) => {
             lent::zero_u32(pairs);

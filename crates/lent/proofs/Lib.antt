@@ -1,2 +1,3 @@
 -- The laws, one file a topic.
 pub mod Zeros
+pub mod Filling

@@ -1,2 +1,3 @@
 -- Interface: twoBytes, fourBytes.
 pub mod Bytes
+pub mod Copied

@@ -1,4 +1,5 @@
-// What every call does with what its caller lends: zeros in slices of three element types, numbers out of bytes.
+// What every call does with what its caller lends: zeros in slices of three element types, one slice copied to the front
+// of another, numbers out of bytes.
 // Assumes nothing.
 ghost use mathlib.Core.Path.{_≡_};
 ghost use mathlib.Core.List.{_++_};
@@ -6,6 +7,7 @@ ghost use Prim.Native.Nat.{_+_, _-_, _≤_, _<_};
 ghost use lib.IntN.{pos};
 ghost use lib.ListN.{length, take, replicate};
 ghost use Rattle.lent.specs.Bytes.{twoBytes, fourBytes};
+ghost use Rattle.lent.specs.Copied.{Copied};
 
 // A byte as a number.
 pub fn wide(x: u8) -> usize
@@ -103,4 +105,28 @@ pub fn zero_i32(slice: &mut [i32])
     ensures { λ _. ⌜ now (slice .exit) ≡ replicate (length (now (slice .entry))) (pos 0) ⌝ }
 {
     zero_rest_i32(slice, 0);
+}
+
+// One slice to the front of another; what stands behind stays.
+pub fn copy_u8(from: &[u8], slice: &mut [u8])
+    requires { ⌜ length (now from) ≤ length (now slice) ⌝ }
+    ensures { λ _. ⌜ Copied (now (from .entry)) (now (slice .entry)) (now (slice .exit)) ⌝ }
+{
+    let mut i = 0;
+    while i < from.len() {
+        slice[i] = from[i];
+        i += 1;
+    }
+}
+
+// The same for 32-bit numbers.
+pub fn copy_u32(from: &[u32], slice: &mut [u32])
+    requires { ⌜ length (now from) ≤ length (now slice) ⌝ }
+    ensures { λ _. ⌜ Copied (now (from .entry)) (now (slice .entry)) (now (slice .exit)) ⌝ }
+{
+    let mut i = 0;
+    while i < from.len() {
+        slice[i] = from[i];
+        i += 1;
+    }
 }

@@ -1,52 +1,159 @@
--- A call on any bytes: an accepted file leaves it to the call's own rows over its netlist, and a refused one ends it.
--- Assumes nothing.
-use mathlib.Core.Path.{_≡_, ap, _∙_}
-use mathlib.Core.List.{List}
-use Prim.Native.Nat.{ℕ}
+-- A call on any bytes and any arrivals: what is accepted leaves it to the call's own rows over its circuit, and what is
+-- refused ends it. Then a list that must have so many entries, none over a bound (listRows). Assumes nothing.
+use mathlib.Core.Path.{_≡_, sym, ap, _∙_}
+use mathlib.Core.Bool.{not}
+use mathlib.Core.List.{List, [], _∷_, _++_}
+use Prim.Native.Nat.{ℕ, _≤_}
+use lib.Dec.{ltb, eqb}
+use lib.ListN.{length}
+use borrow.Author.Tests.{ltb-false, eqb-true}
 use Rattle.refusal.specs.declared.Refusal.{Refusal}
+use Rattle.refusal.specs.declared.Refusal.the-variants.{Arrival}
 use Rattle.refusal.specs.declared.Checked.{Checked}
 use Rattle.refusal.specs.declared.Checked.the-variants.{Passes, Refused as Fails}
 use Rattle.refusal.specs.Rows.{Row, checked, unlessRefused}
-use Rattle.refusal.proofs.Rows.{refused-first, passed-first}
+use Rattle.refusal.proofs.Rows.{refused-first, passed-first, first-passes, rest-passes, passed-by}
 use Rattle.netlist.specs.declared.Shape.{Shape}
 use Rattle.netlist.specs.declared.Opened.the-variants.{Accepted, Refused}
 use Rattle.netlist.specs.Netlist.{Circuit}
 use Rattle.netlist.specs.File.{shapeOf, circuitAt, circuitOf}
-use Rattle.netlist.specs.Open.{netlistRows, openOf, rowsOver, callOver}
-use Rattle.netlist.proofs.TableOrder.{accepted-rows, rejected-rows}
-
--- the circuit of an accepted file is that of its shape
-pub accepted-circuit : (file : List ℕ) {shape : Shape} → openOf file ≡ Accepted shape →
-    circuitOf file ≡ circuitAt file shape
-accepted-circuit file e = ap (circuitAt file) (accepted-rows file e .1)
+use Rattle.netlist.specs.Open.{
+  netlistRows,
+  openOf,
+  firstWrong,
+  listRows,
+  latestArrival,
+  arrivalRows,
+  circuitRows,
+  openCircuitOf,
+  rowsOver,
+  callOver,
+}
+use Rattle.netlist.specs.Holds.{Arrived, Given}
+use Rattle.netlist.proofs.FirstWrong.{within-bound}
+use Rattle.netlist.proofs.TableOrder.{
+  answer,
+  answer-accepts,
+  answer-refuses,
+  accepted-rows,
+  rejected-rows,
+  not-back,
+}
+use Rattle.netlist.proofs.Accepted.{holds}
 
 -- a file that passes the rows 1 to 7 is accepted
 pub passed-opened : (file : List ℕ) → checked (netlistRows file) ≡ Passes → openOf file ≡ Accepted (shapeOf file)
 unfolding openOf
 passed-opened file e = ap (λ (c : Checked). unlessRefused c Refused (Accepted (shapeOf file))) e
 
-module _ (file : List ℕ) (rows : Circuit → List Row) where
-  -- the rows of a call on an accepted file are its own
-  pub rows-accepted : {shape : Shape} → openOf file ≡ Accepted shape →
-      checked (rowsOver file rows) ≡ checked (rows (circuitAt file shape))
-  rows-accepted e =
-      passed-first (netlistRows file) (rows (circuitOf file)) (accepted-rows file e .0)
-      ∙ ap (λ (circuit : Circuit). checked (rows circuit)) (accepted-circuit file e)
+-- ---- a list of so many entries, none over a bound
 
-  -- those on a refused file refuse as the file's do
-  pub rows-rejected : {refusal : Refusal} → openOf file ≡ Refused refusal →
-      checked (rowsOver file rows) ≡ Fails refusal
-  rows-rejected e = refused-first (netlistRows file) (rows (circuitOf file)) (rejected-rows file e)
+-- where it passes, it has so many, and none is over
+pub list-passes : (refusal : ℕ → Refusal) (count most : ℕ) (entries : List ℕ) (more : List Row) →
+    checked (listRows refusal count most entries ++ more) ≡ Passes →
+    (length entries ≡ count) × (length entries ≤ firstWrong (ltb most) entries) × (checked more ≡ Passes)
+list-passes refusal count most entries more e =
+    let wrong = firstWrong (ltb most) entries in
+    let long =
+    passed-by (not (eqb (length entries) count)) (refusal count)
+    ((ltb wrong (length entries), refusal wrong) ∷ more) e
+    in
+    let small = passed-by (ltb wrong (length entries)) (refusal wrong) more (long .1) in (
+      eqb-true _ _ (not-back (eqb (length entries) count) (long .0)),
+      ltb-false _ _ (small .0),
+      small .1,
+    )
 
-  module _ {A : Type 0} (refused : Refusal → A) (passed : Circuit → A) where
-    pub call-accepted : {shape : Shape} → openOf file ≡ Accepted shape →
-        callOver file rows refused passed
-        ≡ unlessRefused (checked (rows (circuitAt file shape))) refused (passed (circuitAt file shape))
-    call-accepted {shape} e =
-        ap (λ (c : Checked). unlessRefused c refused (passed (circuitOf file))) (rows-accepted e)
-        ∙ ap (λ (circuit : Circuit). unlessRefused (checked (rows (circuitAt file shape))) refused (passed circuit))
-        (accepted-circuit file e)
+-- ---- a file and the arrivals of its inputs
 
-    pub call-rejected : {refusal : Refusal} → openOf file ≡ Refused refusal →
-        callOver file rows refused passed ≡ refused refusal
-    call-rejected e = ap (λ (c : Checked). unlessRefused c refused (passed (circuitOf file))) (rows-rejected e)
+module _ (file arrivals : List ℕ) where
+  -- what is accepted passes 1 to 7 and 16, and its shape is the trailer's
+  pub accepted-both : {shape : Shape} → openCircuitOf file arrivals ≡ Accepted shape →
+      (checked (circuitRows file arrivals) ≡ Passes) × (shapeOf file ≡ shape)
+  unfolding openCircuitOf
+  accepted-both e = answer-accepts (shapeOf file) (circuitRows file arrivals) e
+
+  -- what is refused, they refuse
+  pub rejected-both : {refusal : Refusal} → openCircuitOf file arrivals ≡ Refused refusal →
+      checked (circuitRows file arrivals) ≡ Fails refusal
+  unfolding openCircuitOf
+  rejected-both e = answer-refuses (shapeOf file) (circuitRows file arrivals) e
+
+  -- the file by itself is accepted
+  pub accepted-file : {shape : Shape} → openCircuitOf file arrivals ≡ Accepted shape → openOf file ≡ Accepted shape
+  accepted-file e =
+      let b = accepted-both e in
+      passed-opened file (first-passes (netlistRows file) (arrivalRows (shapeOf file .inputs) arrivals) (b .0))
+      ∙ ap Accepted (b .1)
+
+  -- and so are the arrivals
+  pub arrived : {shape : Shape} → openCircuitOf file arrivals ≡ Accepted shape → Arrived shape arrivals
+  unfolding arrivalRows
+  arrived {shape} e =
+      let b = accepted-both e in
+      let rows = rest-passes (netlistRows file) (arrivalRows (shapeOf file .inputs) arrivals) (b .0) in
+      let passed = list-passes Arrival (shapeOf file .inputs) latestArrival arrivals [] rows in
+      record {
+        long = passed .0 ∙ ap (λ (s : Shape). s .inputs) (b .1);
+        early = within-bound latestArrival arrivals (passed .1);
+      }
+
+  -- an accepted file and its arrivals are all that later reads lean on
+  pub accepted : {shape : Shape} → openCircuitOf file arrivals ≡ Accepted shape →
+      Given file shape arrivals
+  accepted {shape} e = record { holds = holds file shape (accepted-file e); arrived = arrived e }
+
+  -- the answer by the file's own and the arrivals' own
+  pub by-file : {refusal : Refusal} → openOf file ≡ Refused refusal → Refused refusal ≡ openCircuitOf file arrivals
+  unfolding openCircuitOf
+  by-file e =
+      sym
+      (ap (λ (c : Checked). unlessRefused c Refused (Accepted (shapeOf file)))
+      (refused-first (netlistRows file) (arrivalRows (shapeOf file .inputs) arrivals) (rejected-rows file e)))
+
+  pub by-arrivals : {shape : Shape} {c : Checked} → openOf file ≡ Accepted shape →
+      c ≡ checked (arrivalRows (shape .inputs) arrivals) →
+      unlessRefused c Refused (Accepted shape) ≡ openCircuitOf file arrivals
+  unfolding openCircuitOf
+  by-arrivals {shape} {c} e f =
+      let own = accepted-rows file e in
+      ap (λ (c : Checked). unlessRefused c Refused (Accepted shape)) f
+      ∙ ap (λ (s : Shape). answer s (arrivalRows (s .inputs) arrivals)) (sym (own .1))
+      ∙ ap (λ (c : Checked). unlessRefused c Refused (Accepted (shapeOf file)))
+      (sym (passed-first (netlistRows file) (arrivalRows (shapeOf file .inputs) arrivals) (own .0)))
+
+  -- ---- a call on them
+
+  -- the circuit of an accepted file is that of its shape
+  pub accepted-circuit : {shape : Shape} → openCircuitOf file arrivals ≡ Accepted shape →
+      circuitOf file arrivals ≡ circuitAt file shape arrivals
+  accepted-circuit e = ap (λ (s : Shape). circuitAt file s arrivals) (accepted-both e .1)
+
+  module _ (rows : Circuit → List Row) where
+    -- the rows of a call on what is accepted are its own
+    pub rows-accepted : {shape : Shape} → openCircuitOf file arrivals ≡ Accepted shape →
+        checked (rowsOver file arrivals rows) ≡ checked (rows (circuitAt file shape arrivals))
+    rows-accepted e =
+        passed-first (circuitRows file arrivals) (rows (circuitOf file arrivals)) (accepted-both e .0)
+        ∙ ap (λ (circuit : Circuit). checked (rows circuit)) (accepted-circuit e)
+
+    -- those on what is refused refuse as these do
+    pub rows-rejected : {refusal : Refusal} → openCircuitOf file arrivals ≡ Refused refusal →
+        checked (rowsOver file arrivals rows) ≡ Fails refusal
+    rows-rejected e =
+        refused-first (circuitRows file arrivals) (rows (circuitOf file arrivals)) (rejected-both e)
+
+    module _ {A : Type 0} (refused : Refusal → A) (passed : Circuit → A) where
+      pub call-accepted : {shape : Shape} → openCircuitOf file arrivals ≡ Accepted shape →
+          callOver file arrivals rows refused passed
+          ≡ unlessRefused (checked (rows (circuitAt file shape arrivals))) refused
+          (passed (circuitAt file shape arrivals))
+      call-accepted {shape} e =
+          ap (λ (c : Checked). unlessRefused c refused (passed (circuitOf file arrivals))) (rows-accepted e)
+          ∙ ap (λ (circuit : Circuit). unlessRefused (checked (rows (circuitAt file shape arrivals))) refused
+          (passed circuit)) (accepted-circuit e)
+
+      pub call-rejected : {refusal : Refusal} → openCircuitOf file arrivals ≡ Refused refusal →
+          callOver file arrivals rows refused passed ≡ refused refusal
+      call-rejected e =
+          ap (λ (c : Checked). unlessRefused c refused (passed (circuitOf file arrivals))) (rows-rejected e)

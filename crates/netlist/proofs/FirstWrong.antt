@@ -1,11 +1,15 @@
--- The first wrong entry of a list: of one list after another, and of the numbers from a place on, searched one at a
--- time. What is left to search gives the same answer as the whole did. Assumes nothing.
+-- The first wrong entry of a list: of one list after another, of the numbers from a place on, and of the entries of a
+-- slice, searched one at a time. What is left to search gives the same answer as the whole did. Assumes nothing.
 use mathlib.Core.Path.{_≡_, refl, sym, ap, _∙_}
 use mathlib.Core.Bool.{Bool, true, false, cond}
 use mathlib.Core.List.{List, [], _∷_, _++_, map, List·Memᴰ, List·Memᴰ·head, List·Memᴰ·tail, List·Memᴰ·not-nil}
-use Prim.Native.Nat.{ℕ, suc, _+_, _-_, _≤_, _<_}
+use Prim.Native.Nat.{ℕ, zero, suc, _+_, _-_, _≤_, _<_}
 use native.Mathlib.Omega.{arith}
-use lib.ListN.{length}
+use native.Mathlib.Numerals.{add-one}
+use lib.Dec.{ltb}
+use lib.ListN.{length, getD, drop, drop-of-length-le}
+use lib.Seq.{drop-cons}
+use borrow.Author.Tests.{ltb-false}
 use Rattle.basics.specs.Lists.{upFrom}
 use Rattle.netlist.specs.Open.{firstWrong}
 
@@ -137,3 +141,51 @@ module _ {wrong : ℕ → Bool} {from count at : ℕ} (s : Searching wrong from 
       ∙ ap (λ (m : ℕ). at + m) (sym (first-none wrong))
       ∙ ap (λ (m : ℕ). at + firstWrong wrong (upFrom at m)) (sym e)
       ∙ s .left
+
+-- ---- a search of a list's entries that has come to i
+
+pub record Looking {A : Type 0} (wrong : A → Bool) (l : List A) (i : ℕ) : Type 0 where
+  pub upto : i ≤ length l
+  pub left : firstWrong wrong l ≡ i + firstWrong wrong (drop i l)
+
+pub looking-starts : {A : Type 0} (wrong : A → Bool) (l : List A) → Looking wrong l 0
+looking-starts wrong l = record { upto = omega arith; left = omega arith }
+
+module _ {A : Type 0} {wrong : A → Bool} {l : List A} {i : ℕ} (b : Looking wrong l i) (d : A) where
+  -- entry i is wrong
+  pub looking-found : i < length l → wrong (getD l i d) ≡ true → i ≡ firstWrong wrong l
+  looking-found h w =
+      let e : firstWrong wrong (drop i l) ≡ 0 =
+      ap (firstWrong wrong) (drop-cons l i d h) ∙ first-here wrong (getD l i d) (drop (suc i) l) w
+      in
+      omega (arith, b .left)
+
+  -- entry i passes
+  pub looking-more : i < length l → wrong (getD l i d) ≡ false → Looking wrong l (i + 1)
+  looking-more h w =
+      let e : firstWrong wrong (drop i l) ≡ suc (firstWrong wrong (drop (i + 1) l)) =
+      ap (firstWrong wrong) (drop-cons l i d h)
+      ∙ first-later wrong (getD l i d) (drop (suc i) l) w
+      ∙ ap (λ (n : ℕ). suc (firstWrong wrong (drop n l))) (sym (add-one i))
+      in
+      record { upto = omega arith; left = omega (arith, b .left) }
+
+  -- nothing is left
+  pub looking-ends : length l ≤ i → i ≡ firstWrong wrong l
+  looking-ends h =
+      let e : firstWrong wrong (drop i l) ≡ 0 =
+      ap (firstWrong wrong) (drop-of-length-le l {i = i} h) ∙ first-none wrong
+      in
+      omega (arith, b .left)
+
+-- ---- a list none of whose entries is over a bound
+
+pub within-bound : (most : ℕ) (l : List ℕ) → length l ≤ firstWrong (ltb most) l → (k : ℕ) → getD l k 0 ≤ most
+within-bound most [] h k = omega arith
+within-bound most (x ∷ l) h k = go (ltb most x) refl k (λ r. within-bound most l r)
+  where
+    go : (b : Bool) → ltb most x ≡ b → (k : ℕ) →
+        (length l ≤ firstWrong (ltb most) l → (k : ℕ) → getD l k 0 ≤ most) → getD (x ∷ l) k 0 ≤ most
+    go true e k r = absurd (omega (arith, first-here (ltb most) x l e))
+    go false e zero r = ltb-false most x e
+    go false e (suc k) r = r (omega (arith, first-later (ltb most) x l e)) k

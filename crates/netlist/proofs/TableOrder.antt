@@ -35,7 +35,7 @@ use Rattle.netlist.proofs.Rows.{counts-right, tables-right}
 use Rattle.netlist.proofs.Sums.{sum-of-all}
 
 -- the answer by some rows
-abbrev answer : Shape → List Row → Opened
+abbrev pub answer : Shape → List Row → Opened
 answer shape rows = unlessRefused (checked rows) Refused (Accepted shape)
 
 -- a row refuses, or passes on
@@ -288,26 +288,35 @@ pub record Passed (file : List ℕ) (shape : Shape) : Type 0 where
   pub pins : Pinned file shape
   pub outputs : shape .outputs ≤ outputPlace file shape
 
+-- an answer that accepts: the rows are passed, and the shape is the one they were asked with
+pub answer-accepts : (own : Shape) (rows : List Row) {shape : Shape} → answer own rows ≡ Accepted shape →
+    (checked rows ≡ Passes) × (own ≡ shape)
+answer-accepts own rows {shape} e = go (checked rows) e
+  where
+    go : (c : Checked) → unlessRefused c Refused (Accepted own) ≡ Accepted shape → (c ≡ Passes) × (own ≡ shape)
+    go Passes e = (refl, cc)
+    go (Fails refusal) e = let w : _≡_ {A = ℕ} 0 1 = cc in absurd (omega arith)
+
+-- an answer that refuses: a row does
+pub answer-refuses : (own : Shape) (rows : List Row) {refusal : Refusal} → answer own rows ≡ Refused refusal →
+    checked rows ≡ Fails refusal
+answer-refuses own rows {refusal} e = go (checked rows) e
+  where
+    go : (c : Checked) → unlessRefused c Refused (Accepted own) ≡ Refused refusal → c ≡ Fails refusal
+    go Passes e = let w : _≡_ {A = ℕ} 0 1 = cc in absurd (omega arith)
+    go (Fails refusal) e = cc
+
 -- an all-passed file's rows are passed, and its shape is the trailer's
 pub accepted-rows : (file : List ℕ) {shape : Shape} → openOf file ≡ Accepted shape →
     (checked (netlistRows file) ≡ Passes) × (shapeOf file ≡ shape)
 unfolding openOf
-accepted-rows file {shape} e = go (checked (netlistRows file)) e
-  where
-    go : (c : Checked) → unlessRefused c Refused (Accepted (shapeOf file)) ≡ Accepted shape →
-        (c ≡ Passes) × (shapeOf file ≡ shape)
-    go Passes e = (refl, cc)
-    go (Fails refusal) e = let w : _≡_ {A = ℕ} 0 1 = cc in absurd (omega arith)
+accepted-rows file e = answer-accepts (shapeOf file) (netlistRows file) e
 
 -- a refused file's rows refuse it
 pub rejected-rows : (file : List ℕ) {refusal : Refusal} → openOf file ≡ Refused refusal →
     checked (netlistRows file) ≡ Fails refusal
 unfolding openOf
-rejected-rows file {refusal} e = go (checked (netlistRows file)) e
-  where
-    go : (c : Checked) → unlessRefused c Refused (Accepted (shapeOf file)) ≡ Refused refusal → c ≡ Fails refusal
-    go Passes e = let w : _≡_ {A = ℕ} 0 1 = cc in absurd (omega arith)
-    go (Fails refusal) e = cc
+rejected-rows file e = answer-refuses (shapeOf file) (netlistRows file) e
 
 passed-own : (file : List ℕ) → checked (rowOne file (shapeOf file)) ≡ Passes → Passed file (shapeOf file)
 unfolding sumWrong

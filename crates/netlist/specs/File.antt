@@ -7,7 +7,7 @@ use Rattle.basics.specs.Lists.{upFrom}
 use Rattle.lent.specs.Bytes.{twoBytes, fourBytes}
 use Rattle.netlist.specs.declared.Shape.{Shape}
 use Rattle.netlist.specs.declared.Gate.{Gate}
-use Rattle.netlist.specs.Netlist.{Netlist, Circuit, Cell, Pin, atZero}
+use Rattle.netlist.specs.Netlist.{Netlist, Circuit, Cell, Pin}
 use Rattle.netlist.specs.Kinds.{kindOf}
 
 -- ---- the trailer (rule N2): back in four bytes, then I, G, P, Q and the version in two each
@@ -108,9 +108,9 @@ netlistAt file shape =
 abbrev pub netlistOf : List ℕ → Netlist
 netlistOf file = netlistAt file (shapeOf file)
 
--- the circuit of a file
-abbrev pub circuitAt : List ℕ → Shape → Circuit
-circuitAt file shape = atZero (netlistAt file shape)
+-- the circuit of a file, and of the arrivals of its inputs
+abbrev pub circuitAt : List ℕ → Shape → List ℕ → Circuit
+circuitAt file shape arrivals = record { net = netlistAt file shape; arrivals = arrivals }
 
-abbrev pub circuitOf : List ℕ → Circuit
-circuitOf file = circuitAt file (shapeOf file)
+abbrev pub circuitOf : List ℕ → List ℕ → Circuit
+circuitOf file arrivals = circuitAt file (shapeOf file) arrivals

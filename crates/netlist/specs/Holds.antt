@@ -1,10 +1,11 @@
--- What every later read of an accepted file may lean on. Interface: Holds, Tables. InRange and Framed serve `open`.
+-- What every later read of an accepted file, and of its inputs' arrivals, may lean on. Interface: Holds, Tables,
+-- Arrived, Given. InRange and Framed serve `open`.
 use mathlib.Core.Path.{_≡_}
 use mathlib.Core.Bool.{false}
 use mathlib.Core.List.{List}
 use Prim.Native.Nat.{ℕ, _+_, _*_, _≤_, _<_}
 use lib.Dec.{T}
-use lib.ListN.{length}
+use lib.ListN.{length, getD}
 use Rattle.netlist.specs.declared.Shape.{Shape}
 use Rattle.netlist.specs.declared.Opened.the-variants.{Accepted}
 use Rattle.netlist.specs.Netlist.{valid}
@@ -18,7 +19,7 @@ use Rattle.netlist.specs.File.{
   delayAt,
   outputAt,
 }
-use Rattle.netlist.specs.Open.{countWrong, backWrong, openOf}
+use Rattle.netlist.specs.Open.{countWrong, backWrong, openOf, latestArrival}
 
 -- each count is in its range (rule N3)
 pub record InRange (shape : Shape) : Type 0 where
@@ -53,3 +54,13 @@ pub record Holds (file : List ℕ) (shape : Shape) : Type 0 where
   pub delays-small : (pin : ℕ) → pin < shape .pins → delayAt file shape pin ≤ 999
   pub outputs-nodes : (position : ℕ) → position < shape .outputs →
       outputAt file shape position < shape .inputs + shape .gates
+
+-- an arrival for each input, none too late (row 16)
+pub record Arrived (shape : Shape) (arrivals : List ℕ) : Type 0 where
+  pub long : length arrivals ≡ shape .inputs
+  pub early : (input : ℕ) → getD arrivals input 0 ≤ latestArrival
+
+-- both
+pub record Given (file : List ℕ) (shape : Shape) (arrivals : List ℕ) : Type 0 where
+  pub holds : Holds file shape
+  pub arrived : Arrived shape arrivals

@@ -1,5 +1,6 @@
--- Rows 1 to 7 of the table of refusals (rule T1), in the sequence of rules C3 and C4: no pin until all gates are right,
--- no output until all pins are. Interface: netlistRows, openOf, rowsOver, callOver.
+-- Rows 1 to 7 and 16 of the table of refusals (rule T1), in the sequence of rules C3 and C4: no pin until all gates are
+-- right, no output until all pins are, no arrival until the netlist is. Interface: netlistRows, openOf, listRows,
+-- arrivalRows, circuitRows, openCircuitOf, rowsOver, callOver.
 use mathlib.Core.Bool.{Bool, not, _&&_, _||_, cond}
 use mathlib.Core.List.{List, [], _∷_, _++_, map}
 use Prim.Native.Nat.{ℕ, zero, suc, _+_, _-_}
@@ -7,7 +8,7 @@ use lib.Dec.{leb, ltb, eqb}
 use lib.ListN.{length}
 use Rattle.basics.specs.Lists.{upFrom, concatMap}
 use Rattle.refusal.specs.declared.Refusal.{Refusal}
-use Rattle.refusal.specs.declared.Refusal.the-variants.{Short, Version, Count, Back, Gate, Pin, Output}
+use Rattle.refusal.specs.declared.Refusal.the-variants.{Short, Version, Count, Back, Gate, Pin, Output, Arrival}
 use Rattle.refusal.specs.Rows.{Row, checked, unlessRefused}
 use Rattle.netlist.specs.declared.Shape.{Shape}
 use Rattle.netlist.specs.declared.Opened.{Opened}
@@ -112,10 +113,34 @@ netlistRows file =
 unfoldable pub openOf : List ℕ → Opened
 openOf file = unlessRefused (checked (netlistRows file)) Refused (Accepted (shapeOf file))
 
--- the rows of a call on any list of bytes: 1 to 7, then the call's own over the circuit
-abbrev pub rowsOver : List ℕ → (Circuit → List Row) → List Row
-rowsOver file rows = netlistRows file ++ rows (circuitOf file)
+-- a list that must have so many entries, none over `most`: refused at that number, or at the first that is over
+abbrev pub listRows : (ℕ → Refusal) → ℕ → ℕ → List ℕ → List Row
+listRows refusal count most entries =
+    (not (eqb (length entries) count), refusal count)
+    ∷ (ltb (firstWrong (ltb most) entries) (length entries), refusal (firstWrong (ltb most) entries)) ∷ []
 
--- what a call on any list of bytes comes to
-abbrev pub callOver : {A : Type 0} → List ℕ → (Circuit → List Row) → (Refusal → A) → (Circuit → A) → A
-callOver file rows refused passed = unlessRefused (checked (rowsOver file rows)) refused (passed (circuitOf file))
+-- no input arrives later (rule S1)
+abbrev pub latestArrival : ℕ
+latestArrival = 9999
+
+-- 16 ARRIVAL, of the arrivals of so many inputs
+unfoldable pub arrivalRows : ℕ → List ℕ → List Row
+arrivalRows inputs arrivals = listRows Arrival inputs latestArrival arrivals
+
+-- 1 to 7, then 16
+abbrev pub circuitRows : List ℕ → List ℕ → List Row
+circuitRows file arrivals = netlistRows file ++ arrivalRows (shapeOf file .inputs) arrivals
+
+-- the answer for any list of bytes with any arrivals
+unfoldable pub openCircuitOf : List ℕ → List ℕ → Opened
+openCircuitOf file arrivals =
+    unlessRefused (checked (circuitRows file arrivals)) Refused (Accepted (shapeOf file))
+
+-- the rows of a call on any list of bytes and any arrivals: 1 to 7 and 16, then the call's own over the circuit
+abbrev pub rowsOver : List ℕ → List ℕ → (Circuit → List Row) → List Row
+rowsOver file arrivals rows = circuitRows file arrivals ++ rows (circuitOf file arrivals)
+
+-- what such a call comes to
+abbrev pub callOver : {A : Type 0} → List ℕ → List ℕ → (Circuit → List Row) → (Refusal → A) → (Circuit → A) → A
+callOver file arrivals rows refused passed =
+    unlessRefused (checked (rowsOver file arrivals rows)) refused (passed (circuitOf file arrivals))

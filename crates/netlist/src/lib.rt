@@ -1,15 +1,18 @@
-// The netlist file: accepted, with its shape, or refused with the table's number and place; and the reads of an
-// accepted file. Assumes nothing.
+// The netlist file, and the arrivals of its inputs: accepted, with the file's shape, or refused with the table's number
+// and place; and the reads of an accepted file. Assumes nothing.
+use refusal::Checked;
 use refusal::Refusal;
 ghost use mathlib.Core.Path.{_≡_};
 ghost use mathlib.Core.Bool.{_&&_};
 ghost use Prim.Native.Nat.{_+_, _-_, _*_, _≤_, _<_};
-ghost use lib.Dec.{leb};
+ghost use lib.Dec.{leb, ltb};
 ghost use lib.ListN.{length};
 ghost use Rattle.netlist.specs.Kinds.{kindOf, fewest, most, recordOf, digitOf};
 ghost use Rattle.netlist.specs.File.{gateAt, countAt, driverAt, delayAt, outputAt, shapeOf, tableBytes};
 ghost use Rattle.netlist.specs.Open.{openOf, countWrong, backWrong, pinsBefore, gateWrong, gatePlace};
 ghost use Rattle.netlist.specs.Open.{pinWrong, rightPins, pinPlace, outputWrong, outputPlace};
+ghost use Rattle.netlist.specs.Open.{firstWrong, arrivalRows, openCircuitOf};
+ghost use Rattle.refusal.specs.Rows.{checked};
 ghost use Rattle.netlist.specs.Holds.{InRange, Tables, Framed};
 
 // What a gate does: c and k of a simple gate; a parity gate's value for equal pins; nothing for a multiplexer.
@@ -401,4 +404,49 @@ pub fn open(file: &[u8]) -> Opened
         return Opened::Refused(Refusal::Back);
     }
     open_tables(file, shape)
+}
+
+// How many entries stand before the first that is over `most`; all of them where none is.
+pub fn first_over(entries: &[u32], most: u32) -> usize
+    ensures { λ r. ⌜ r ≡ firstWrong (ltb most) (now (entries .entry)) ⌝ }
+{
+    let mut i = 0;
+    while i < entries.len() {
+        if most < entries[i] {
+            return i;
+        }
+        i += 1;
+    }
+    i
+}
+
+// 16 for the arrivals of so many inputs.
+fn check_arrivals(arrivals: &[u32], inputs: usize) -> Checked
+    ensures { λ r. ⌜ r ≡ checked (arrivalRows inputs (now (arrivals .entry))) ⌝ }
+{
+    if arrivals.len() != inputs {
+        return Checked::Refused(Refusal::Arrival(inputs));
+    }
+    let wrong = first_over(arrivals, 9999);
+    if wrong < arrivals.len() {
+        return Checked::Refused(Refusal::Arrival(wrong));
+    }
+    Checked::Passes
+}
+
+// The answer for any bytes and any arrivals: checks 1 to 7, then 16.
+pub fn open_circuit(file: &[u8], arrivals: &[u32]) -> Opened
+    ensures { λ r. ⌜ r ≡ openCircuitOf (now (file .entry)) (now (arrivals .entry)) ⌝ }
+{
+    let opened = open(file);
+    match opened {
+        Opened::Refused(refusal) => Opened::Refused(refusal),
+        Opened::Accepted(shape) => {
+            let arrived = check_arrivals(arrivals, shape.inputs);
+            match arrived {
+                Checked::Refused(refusal) => Opened::Refused(refusal),
+                Checked::Passes => Opened::Accepted(shape),
+            }
+        }
+    }
 }

@@ -21,11 +21,12 @@ use lib.ListN.{length, getD, take, drop, drop-of-length-le}
 use Rattle.netlist.specs.declared.Shape.{Shape}
 use Rattle.netlist.specs.Netlist.{Netlist}
 use Rattle.netlist.specs.File.{netlistAt, circuitAt}
-use Rattle.netlist.specs.Holds.{Holds}
+use Rattle.netlist.specs.Holds.{Given}
 use Rattle.netlist.proofs.Entries.{net-inputs}
 use Rattle.netlist.proofs.Valid.{valid-gates, valid-outputs}
 use Rattle.settle.specs.Settling.{topOf}
-use Rattle.settle.proofs.Nodes.{tops-small}
+use Rattle.settle.specs.Steps.{latest}
+use Rattle.settle.proofs.Gates.{tops-early}
 use Rattle.pairs.specs.Pairs.{flatPairs, pairsFor, pairList}
 use Rattle.pairs.specs.Rising.{Before, Rising}
 use Rattle.pairs.specs.Table.{pairsIn, keyOf, Sorted, Within, AsksAll}
@@ -42,7 +43,7 @@ use Rattle.pairs.proofs.Step.{AskedAt, facts-of, stepped, asked-of}
 abbrev pub foundIn : List ℕ → ℕ → List (ℕ × ℕ)
 foundIn table at = pairsIn (take (length table - at * 2) (drop (at * 2) table))
 
-pub record Filling (file : List ℕ) (shape : Shape) (target : ℕ) (table₀ table : List ℕ) (at f b : ℕ) : Type 0 where
+pub record Filling (file : List ℕ) (shape : Shape) (arrivals : List ℕ) (target : ℕ) (table₀ table : List ℕ) (at f b : ℕ) : Type 0 where
   pub done : List (ℕ × ℕ)
   pub len : length table ≡ length table₀
   pub even : length table₀ / 2 * 2 ≡ length table₀
@@ -50,31 +51,31 @@ pub record Filling (file : List ℕ) (shape : Shape) (target : ℕ) (table₀ ta
   pub room : at + length done ≡ length table₀ / 2
   pub node : shape .inputs ≤ f
   pub nodes : f ≤ shape .inputs + shape .gates
-  pub bound : b ≤ topOf (circuitAt file shape) f + 1
+  pub bound : b ≤ topOf (circuitAt file shape arrivals) f + 1
   pub rising : Rising Before done
-  pub sound : (x : ℕ × ℕ) → List·Memᴰ x done → AskedAt file shape target (x .0) (x .1)
+  pub sound : (x : ℕ × ℕ) → List·Memᴰ x done → AskedAt file shape arrivals target (x .0) (x .1)
   pub low : (x : ℕ × ℕ) → List·Memᴰ x done → keyOf (f, b) ≤ keyOf x
-  pub full : (n s : ℕ) → AskedAt file shape target n s → keyOf (f, b) ≤ keyOf (n, s) → List·Memᴰ (n, s) done
+  pub full : (n s : ℕ) → AskedAt file shape arrivals target n s → keyOf (f, b) ≤ keyOf (n, s) → List·Memᴰ (n, s) done
 
-module _ {file : List ℕ} {shape : Shape} (holds : Holds file shape) (target : ℕ) where
+module _ {file : List ℕ} {shape : Shape} {arrivals : List ℕ} (given : Given file shape arrivals) (target : ℕ) where
   abbrev net : Netlist
   net = netlistAt file shape
 
   abbrev top : ℕ → ℕ
-  top = topOf (circuitAt file shape)
+  top = topOf (circuitAt file shape arrivals)
 
   abbrev A : ℕ → ℕ → Type 0
-  A = AskedAt file shape target
+  A = AskedAt file shape arrivals target
 
   facts : (n s : ℕ) → A n s →
-      (shape .inputs ≤ n) × (n < shape .inputs + shape .gates) × (0 < s) × (s ≤ top n) × (s ≤ 447552)
-  facts = facts-of holds target
+      (shape .inputs ≤ n) × (n < shape .inputs + shape .gates) × (0 < s) × (s ≤ top n) × (s ≤ latest)
+  facts = facts-of given target
 
-  small : (n : ℕ) → top n ≤ 447552
-  small = tops-small net (holds .valid)
+  small : (n : ℕ) → top n ≤ latest
+  small = tops-early given
 
   pub filling-starts : (table : List ℕ) → length table / 2 * 2 ≡ length table →
-      Filling file shape target table table (length table / 2) (shape .inputs + shape .gates) 0
+      Filling file shape arrivals target table table (length table / 2) (shape .inputs + shape .gates) 0
   unfolding flatPairs
   filling-starts table e =
       record {
@@ -93,15 +94,15 @@ module _ {file : List ℕ} {shape : Shape} (holds : Holds file shape) (target : 
       }
 
   -- the pairs in the table's end are those found
-  seen : {table₀ table : List ℕ} {at f b : ℕ} (w : Filling file shape target table₀ table at f b) →
+  seen : {table₀ table : List ℕ} {at f b : ℕ} (w : Filling file shape arrivals target table₀ table at f b) →
       foundIn table at ≡ w .done
   seen {table = table} {at = at} w = ap pairsIn (part table (at * 2) ∙ w .is) ∙ pairs-flat (w .done)
 
-  module _ {table₀ table : List ℕ} {at f b : ℕ} (w : Filling file shape target table₀ table at f b) where
+  module _ {table₀ table : List ℕ} {at f b : ℕ} (w : Filling file shape arrivals target table₀ table at f b) where
     -- the top of the node below, as it is read, is small
-    pub filling-top : {tops : List ℕ} → shape .inputs < f → Tops file shape tops → (x : ℕ) → x ≡ getD tops (f - 1) 0 →
-        x ≤ 447552
-    filling-top h tops x q = top-read holds (f - 1) x tops (omega (arith, w .nodes)) q .1
+    pub filling-top : {tops : List ℕ} → shape .inputs < f → Tops file shape arrivals tops → (x : ℕ) → x ≡ getD tops (f - 1) 0 →
+        x ≤ latest
+    filling-top h tops x q = top-read given (f - 1) x tops (omega (arith, w .nodes)) q .1
 
     pub filling-sorted : Sorted (foundIn table at)
     filling-sorted =
@@ -112,7 +113,7 @@ module _ {file : List ℕ} {shape : Shape} (holds : Holds file shape) (target : 
     pub filling-asks : (x : ℕ) → x ≡ top f → (t : ℕ) →
         Within x (AsksAll (foundIn table at) file shape target f) t → A f t × (t < x + 1)
     filling-asks x e t u = (
-      asked-of holds target (w .done) f t (rw (seen w) at (u .has)) (w .sound)
+      asked-of given target (w .done) f t (rw (seen w) at (u .has)) (w .sound)
           (is-pair (net .inputs) top (net .outputs) target f t (omega (arith, w .node, net-inputs file shape)) (u .some)
           (omega (arith, u .few))),
       omega (arith, u .few),
@@ -126,7 +127,7 @@ module _ {file : List ℕ} {shape : Shape} (holds : Holds file shape) (target : 
           few = omega arith;
           has =
               rw (seen w)
-              (stepped holds target (w .done) f t a λ n r l q.
+              (stepped given target (w .done) f t a λ n r l q.
               w .full n r q (omega (arith, facts n r q .4, small f, w .bound)));
         }
 
@@ -143,10 +144,10 @@ module _ {file : List ℕ} {shape : Shape} (holds : Holds file shape) (target : 
               absurd (none s (subst (λ (x : ℕ). A x s) e a) (omega arith))
 
       -- on to the node below, whose top is x
-      pub filling-down : {tops : List ℕ} → shape .inputs < f → Tops file shape tops → (x : ℕ) →
-          x ≡ getD tops (f - 1) 0 → Filling file shape target table₀ table at (f - 1) (x + 1)
+      pub filling-down : {tops : List ℕ} → shape .inputs < f → Tops file shape arrivals tops → (x : ℕ) →
+          x ≡ getD tops (f - 1) 0 → Filling file shape arrivals target table₀ table at (f - 1) (x + 1)
       filling-down h tops x q =
-          let e = top-read holds (f - 1) x tops (omega (arith, w .nodes)) q .0 in
+          let e = top-read given (f - 1) x tops (omega (arith, w .nodes)) q .0 in
           record {
             done = w .done;
             len = w .len;
@@ -172,13 +173,13 @@ module _ {file : List ℕ} {shape : Shape} (holds : Holds file shape) (target : 
 
       -- or all are found
       pub filling-ends : f ≤ shape .inputs →
-          (at + length (pairsAt file shape target) ≡ length table₀ / 2)
-          × (drop (at * 2) table ≡ flatPairs (pairsAt file shape target))
+          (at + length (pairsAt file shape arrivals target) ≡ length table₀ / 2)
+          × (drop (at * 2) table ≡ flatPairs (pairsAt file shape arrivals target))
       unfolding pairsFor
       filling-ends h =
           let e : w .done ≡ pairList (net .inputs) top (net .outputs) target (net .gates) =
-          pairs-unique (net .inputs) top (net .outputs) target (net .gates) (valid-gates net (holds .valid))
-          (valid-outputs net (holds .valid)) (w .done) (w .rising)
+          pairs-unique (net .inputs) top (net .outputs) target (net .gates) (valid-gates net (given .holds .valid))
+          (valid-outputs net (given .holds .valid)) (w .done) (w .rising)
           (λ n s. (λ m. w .sound (n, s) m, λ a. from-here n s a (omega (arith, facts n s a .0))))
           in
           (ap (λ (x : List (ℕ × ℕ)). at + length x) (sym e) ∙ w .room, w .is ∙ ap flatPairs e)
@@ -204,7 +205,7 @@ module _ {file : List ℕ} {shape : Shape} (holds : Holds file shape) (target : 
       -- one more pair
       pub filling-more : ((s : ℕ) → A f s → s < b → s ≤ t) → (table′ : List ℕ) → 0 < at →
           length table′ ≡ length table → drop ((at - 1) * 2) table′ ≡ f ∷ t ∷ drop ((at - 1) * 2 + 2) table →
-          Filling file shape target table₀ table′ (at - 1) f t
+          Filling file shape arrivals target table₀ table′ (at - 1) f t
       unfolding flatPairs
       filling-more most table′ h l e =
           let q : (at - 1) * 2 + 2 ≡ at * 2 = omega arith in
@@ -236,7 +237,7 @@ module _ {file : List ℕ} {shape : Shape} (holds : Holds file shape) (target : 
               List·Memᴰ·head (ap₂ (λ (x y : ℕ). (x, y)) q r)
 
       -- one more pair than there is room for
-      pub filling-full : at ≡ 0 → length table₀ / 2 < length (pairsAt file shape target)
+      pub filling-full : at ≡ 0 → length table₀ / 2 < length (pairsAt file shape arrivals target)
       unfolding pairsFor
       filling-full e =
           let k =
@@ -244,7 +245,7 @@ module _ {file : List ℕ} {shape : Shape} (holds : Holds file shape) (target : 
           (pairList (net .inputs) top (net .outputs) target (net .gates)) longer
           (pairs-rising (net .inputs) top (net .outputs) target (net .gates))
           (λ x m.
-          asked-pairs (net .inputs) top (net .outputs) target (net .gates) (valid-gates net (holds .valid))
-          (valid-outputs net (holds .valid)) (x .0) (x .1) (sounder x m))
+          asked-pairs (net .inputs) top (net .outputs) target (net .gates) (valid-gates net (given .holds .valid))
+          (valid-outputs net (given .holds .valid)) (x .0) (x .1) (sounder x m))
           in
           omega (arith, w .room)

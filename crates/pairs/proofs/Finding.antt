@@ -7,7 +7,8 @@ use Prim.Native.Nat.{ℕ, _+_, _*_, _-_, _/_, _^_, _<_, _≤_}
 use native.Mathlib.Omega.{arith}
 use lib.ListN.{length, getD, set, drop}
 use Rattle.netlist.specs.declared.Shape.{Shape}
-use Rattle.netlist.specs.Holds.{Holds}
+use Rattle.netlist.specs.Holds.{Given}
+use Rattle.settle.specs.Steps.{latest}
 use Rattle.pairs.specs.Pairs.{flatPairs}
 use Rattle.pairs.specs.Table.{Marked, Adds, Highest, LastWord, Within, AsksAll}
 use Rattle.pairs.specs.Promise.{Tops, pairsAt}
@@ -36,92 +37,92 @@ use Rattle.pairs.proofs.Filling.{
   filling-ends,
 }
 
-pub record Finding (file : List ℕ) (shape : Shape) (target : ℕ) (table₀ table : List ℕ) (at f : ℕ) (marks : List ℕ)
+pub record Finding (file : List ℕ) (shape : Shape) (arrivals : List ℕ) (target : ℕ) (table₀ table : List ℕ) (at f : ℕ) (marks : List ℕ)
     (word bits : ℕ) : Type 0 where
   pub bound : ℕ
-  pub filling : Filling file shape target table₀ table at f bound
-  pub scanning : Scanning (AskedAt file shape target f) bound marks word bits
+  pub filling : Filling file shape arrivals target table₀ table at f bound
+  pub scanning : Scanning (AskedAt file shape arrivals target f) bound marks word bits
 
 -- a word less is less, whatever its bits
 pub word-less : (a r word v bits : ℕ) → r < word → v < 18446744073709551616 →
     (a + r) * 18446744073709551616 + v < (a + word) * 18446744073709551616 + bits
 word-less a r word v bits h l = omega arith
 
-module _ {file : List ℕ} {shape : Shape} (holds : Holds file shape) (target : ℕ) where
+module _ {file : List ℕ} {shape : Shape} {arrivals : List ℕ} (given : Given file shape arrivals) (target : ℕ) where
   pub finding-starts : (table marks : List ℕ) → length table / 2 * 2 ≡ length table →
       ((t : ℕ) → Marked marks t → ⊥) → 0 < length marks →
-      Finding file shape target table table (length table / 2) (shape .inputs + shape .gates) marks 0 0
+      Finding file shape arrivals target table table (length table / 2) (shape .inputs + shape .gates) marks 0 0
   finding-starts table marks e h r =
       record {
         bound = 0;
-        filling = filling-starts holds target table e;
-        scanning = scanning-starts (AskedAt file shape target (shape .inputs + shape .gates)) h r;
+        filling = filling-starts given target table e;
+        scanning = scanning-starts (AskedAt file shape arrivals target (shape .inputs + shape .gates)) h r;
       }
 
   module _ {table₀ table : List ℕ} {at f : ℕ} {marks : List ℕ} {word bits : ℕ}
-      (w : Finding file shape target table₀ table at f marks word bits) where
+      (w : Finding file shape arrivals target table₀ table at f marks word bits) where
     -- no bit of the word is left
     module _ (read : bits ≡ 0) where
-      empty : Scanning (AskedAt file shape target f) (w .bound) marks word 0
+      empty : Scanning (AskedAt file shape arrivals target f) (w .bound) marks word 0
       empty =
-          subst (λ (x : ℕ). Scanning (AskedAt file shape target f) (w .bound) marks word x) read (w .scanning)
+          subst (λ (x : ℕ). Scanning (AskedAt file shape arrivals target f) (w .bound) marks word x) read (w .scanning)
 
       -- on to the last word before it with a mark
       pub finding-next : {r : ℕ} (v : ℕ) → 0 < word → LastWord marks (word - 1) r → v ≡ getD marks r 0 →
-          Finding file shape target table₀ table at f (set marks r 0) r v
+          Finding file shape arrivals target table₀ table at f (set marks r 0) r v
       finding-next v h last e =
           record { bound = w .bound; filling = w .filling; scanning = scanning-next v empty h last e }
 
       -- no word is left
       module _ (ended : word ≡ 0) where
-        done : Scanning (AskedAt file shape target f) (w .bound) marks 0 0
-        done = subst (λ (x : ℕ). Scanning (AskedAt file shape target f) (w .bound) marks x 0) ended empty
+        done : Scanning (AskedAt file shape arrivals target f) (w .bound) marks 0 0
+        done = subst (λ (x : ℕ). Scanning (AskedAt file shape arrivals target f) (w .bound) marks x 0) ended empty
 
         -- on to the node below, whose top is x
-        pub finding-down : {tops marks′ : List ℕ} (x : ℕ) → shape .inputs < f → Tops file shape tops →
+        pub finding-down : {tops marks′ : List ℕ} (x : ℕ) → shape .inputs < f → Tops file shape arrivals tops →
             x ≡ getD tops (f - 1) 0 →
             Adds marks (Within x (AsksAll (foundIn table at) file shape target (f - 1))) marks′ →
-            x / 64 + 1 < length marks′ → Finding file shape target table₀ table at (f - 1) marks′ (x / 64 + 1) bits
+            x / 64 + 1 < length marks′ → Finding file shape arrivals target table₀ table at (f - 1) marks′ (x / 64 + 1) bits
         finding-down {marks′ = marks′} x h tops q more r =
-            let down = filling-down holds target (w .filling) (scanning-none done) h tops x q in
-            let top = top-read holds (f - 1) x tops (omega (arith, w .filling .nodes)) q .0 in
+            let down = filling-down given target (w .filling) (scanning-none done) h tops x q in
+            let top = top-read given (f - 1) x tops (omega (arith, w .filling .nodes)) q .0 in
             record {
               bound = x + 1;
               filling = down;
               scanning =
                   rw read
-                  (scanning-fresh (AskedAt file shape target (f - 1)) (x + 1) (x / 64 + 1) (scanning-clear done) more
-                  (filling-asks holds target down x top) (λ t a l. filling-asked holds target down x refl t a l)
+                  (scanning-fresh (AskedAt file shape arrivals target (f - 1)) (x + 1) (x / 64 + 1) (scanning-clear done) more
+                  (filling-asks given target down x top) (λ t a l. filling-asked given target down x refl t a l)
                   (λ t l. omega arith) r);
             }
 
         -- or all are found
         pub finding-ends : f ≤ shape .inputs →
-            (at + length (pairsAt file shape target) ≡ length table₀ / 2)
-            × (drop (at * 2) table ≡ flatPairs (pairsAt file shape target))
-        finding-ends h = filling-ends holds target (w .filling) (scanning-none done) h
+            (at + length (pairsAt file shape arrivals target) ≡ length table₀ / 2)
+            × (drop (at * 2) table ≡ flatPairs (pairsAt file shape arrivals target))
+        finding-ends h = filling-ends given target (w .filling) (scanning-none done) h
 
     -- the highest bit of the word is bit k
     module _ {k : ℕ} (high : Highest bits k) where
-      found : AskedAt file shape target f (word * 64 + k) × (word * 64 + k < w .bound)
+      found : AskedAt file shape arrivals target f (word * 64 + k) × (word * 64 + k < w .bound)
       found = scanning-found (w .scanning) high (word * 64 + k) refl
 
-      pub finding-time : word * 64 + k ≤ 447552
-      finding-time = facts-of holds target f (word * 64 + k) (found .0) .4
+      pub finding-time : word * 64 + k ≤ latest
+      finding-time = facts-of given target f (word * 64 + k) (found .0) .4
 
       -- one more pair
       pub finding-more : (table′ : List ℕ) (rest : ℕ) → 0 < at → length table′ ≡ length table →
           drop ((at - 1) * 2) table′ ≡ f ∷ (word * 64 + k) ∷ drop ((at - 1) * 2 + 2) table → rest ≡ bits - 2 ^ k →
-          Finding file shape target table₀ table′ (at - 1) f marks word rest
+          Finding file shape arrivals target table₀ table′ (at - 1) f marks word rest
       finding-more table′ rest h l e q =
           record {
             bound = word * 64 + k;
             filling =
-                filling-more holds target (w .filling) (word * 64 + k) found
+                filling-more given target (w .filling) (word * 64 + k) found
                 (scanning-most (w .scanning) high (word * 64 + k) refl) table′ h l e;
             scanning = scanning-taken (w .scanning) high (word * 64 + k) refl rest q;
           }
 
       -- one more than there is room for
-      pub finding-full : at ≡ 0 → length table₀ / 2 < length (pairsAt file shape target)
-      finding-full e = filling-full holds target (w .filling) (word * 64 + k) found e
+      pub finding-full : at ≡ 0 → length table₀ / 2 < length (pairsAt file shape arrivals target)
+      finding-full e = filling-full given target (w .filling) (word * 64 + k) found e

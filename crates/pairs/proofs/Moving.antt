@@ -7,7 +7,7 @@ use Prim.Native.Nat.{ℕ, suc, _+_, _*_, _/_, _<_}
 use native.Mathlib.Omega.{arith}
 use lib.ListN.{length, getD, set, take, drop, length-set, length-drop}
 use lib.Seq.{drop-cons, getD-drop, getD-append-add, getD-set-same, getD-set-other, drop-set-lt, length-take-le}
-use Rattle.settle.proofs.Filling.{Filled, filled-starts, filled-more}
+use Rattle.lent.proofs.Filling.{Filled, filled-starts, filled-more}
 
 -- ---- a pair is stored
 

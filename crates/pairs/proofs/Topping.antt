@@ -23,17 +23,21 @@ use lib.ListN.{
   getD-replicate,
   List·getD-append,
 }
-use lib.Seq.{length-take-le, take-at, getD-take, getD-set-same, getD-set-other, ext-getD}
+use lib.Seq.{length-take-le, take-at, take-append-le, getD-take, getD-set-same, getD-set-other, ext-getD}
+use Rattle.lent.specs.Copied.{Copied}
+use Rattle.lent.proofs.Filling.{copied-length}
 use Rattle.netlist.specs.declared.Shape.{Shape}
 use Rattle.netlist.specs.declared.Gate.{Gate}
 use Rattle.netlist.specs.Netlist.{Netlist}
 use Rattle.netlist.specs.File.{netlistAt, cellAt, gateAt, pinAt, firstAt, driverAt, delayAt, circuitAt}
-use Rattle.netlist.specs.Holds.{Holds}
+use Rattle.netlist.specs.Holds.{Given}
 use Rattle.netlist.proofs.Entries.{pin-driver, pin-delay, pins-from, pins-done, net-inputs, node-count, node-has}
 use Rattle.netlist.proofs.GateRead.{gate-fields}
 use Rattle.settle.specs.Settling.{last, readyAt, topOf, topsOf}
 use Rattle.settle.proofs.Argument.{last-cong}
-use Rattle.settle.proofs.Nodes.{laid, runs, input-top, tops-length, tops-small, Arrives, zero-arrives}
+use Rattle.settle.specs.Steps.{latest}
+use Rattle.settle.proofs.Nodes.{laid, runs, input-top, tops-length, tops-begin, Arrives}
+use Rattle.settle.proofs.Gates.{net-arrives, tops-early}
 use Rattle.pairs.specs.Promise.{Topped, Tops}
 
 -- ---- when the last pin of a gate is ready
@@ -84,69 +88,61 @@ readying-ends {file} {shape} {number} {tops} {latest} {k} g own b h =
 -- ---- all nodes
 
 -- the nodes before gate i have their tops
-pub record Topping (file : List ℕ) (shape : Shape) (tops : List ℕ) (i : ℕ) : Type 0 where
+pub record Topping (file : List ℕ) (shape : Shape) (arrivals tops : List ℕ) (i : ℕ) : Type 0 where
   pub long : shape .inputs + shape .gates ≤ length tops
   pub is : (k : ℕ) → k < shape .inputs + i →
-      getD tops k 0 ≡ topOf (circuitAt file shape) k
+      getD tops k 0 ≡ topOf (circuitAt file shape arrivals) k
 
-module _ {file : List ℕ} {shape : Shape} (holds : Holds file shape) where
+module _ {file : List ℕ} {shape : Shape} {arrivals : List ℕ} (given : Given file shape arrivals) where
   abbrev net : Netlist
   net = netlistAt file shape
 
-  zeros : Arrives (circuitAt file shape)
-  zeros = zero-arrives net
+  arrives : Arrives (circuitAt file shape arrivals)
+  arrives = net-arrives file (given .arrived)
 
-  -- the inputs' tops are 0
-  pub topping-starts : (tops zeroed : List ℕ) → shape .inputs + shape .gates ≤ length tops →
-      zeroed ≡ replicate (length (take (shape .inputs) tops)) 0 →
-      Topping file shape (zeroed ++ drop (shape .inputs) tops) 0
-  topping-starts tops zeroed h e =
-      let m = length (take (shape .inputs) tops) in
-      let some : length (take (shape .inputs) tops) ≡ shape .inputs =
-      length-take-le (shape .inputs) tops (omega arith)
-      in
-      let n : length zeroed ≡ shape .inputs = ap length e ∙ length-replicate m 0 ∙ some in
+  -- the inputs' tops are their arrivals
+  pub topping-starts : {tops copied : List ℕ} → shape .inputs + shape .gates ≤ length tops →
+      Copied arrivals tops copied → Topping file shape arrivals copied 0
+  topping-starts {tops} {copied} h c =
       record {
-        long = simp (length-append, length-drop) (omega arith);
+        long = omega (arith, copied-length c (shape .inputs) (given .arrived .long) (omega arith));
         is =
             λ k l.
             let i : k < netlistAt file shape .inputs = omega (arith, net-inputs file shape) in
-            List·getD-append zeroed (drop (shape .inputs) tops) 0 k (omega arith)
-            ∙ ap (λ (x : List ℕ). getD x k 0) e
-            ∙ getD-replicate {A = ℕ} m k 0 0 (omega arith)
-            ∙ sym (getD-replicate {A = ℕ} (net .inputs) k 0 0 i)
-            ∙ sym (input-top (circuitAt file shape) zeros k i);
+            ap (λ (x : List ℕ). getD x k 0) (c .is)
+            ∙ List·getD-append arrivals (drop (length arrivals) tops) 0 k (omega (arith, given .arrived .long))
+            ∙ sym (input-top (circuitAt file shape arrivals) arrives k i);
       }
 
   -- when gate i's last pin is ready by the tops so far is its top
-  topping-value : {tops : List ℕ} {i : ℕ} (r : ℕ) → Topping file shape tops i → i < shape .gates →
+  topping-value : {tops : List ℕ} {i : ℕ} (r : ℕ) → Topping file shape arrivals tops i → i < shape .gates →
       r ≡ last (readyAt (λ node. getD (take (shape .inputs + i) tops) node 0)) (cellAt file shape i .pins) →
-      r ≡ topOf (circuitAt file shape) (shape .inputs + i)
+      r ≡ topOf (circuitAt file shape arrivals) (shape .inputs + i)
   topping-value {tops} {i} r b h e =
       let node = shape .inputs + i in
       let cell = cellAt file shape i in
       let m = node-has file shape i h in
       e
       ∙ last-cong (readyAt (λ node. getD (take (shape .inputs + i) tops) node 0))
-      (readyAt (topOf (circuitAt file shape)))
+      (readyAt (topOf (circuitAt file shape arrivals)))
       (cell .pins)
       (λ p j.
-      let l = laid net (holds .valid) .below node cell m p j in
+      let l = laid net (given .holds .valid) .below node cell m p j in
       ap (λ (n : ℕ). n + p .delay) (getD-take node tops (p .driver) 0 l ∙ b .is (p .driver) l))
       ∙ sym
-      (runs (circuitAt file shape) (holds .valid) zeros (replicate (net .inputs) false)
+      (runs (circuitAt file shape arrivals) (given .holds .valid) arrives (replicate (net .inputs) false)
       (length-replicate (net .inputs) false)
       .top-fixed node cell m)
 
   -- and is small
-  pub topping-small : {tops : List ℕ} {i : ℕ} (r : ℕ) → Topping file shape tops i → i < shape .gates →
-      r ≡ last (readyAt (λ node. getD (take (shape .inputs + i) tops) node 0)) (cellAt file shape i .pins) → r ≤ 447552
+  pub topping-small : {tops : List ℕ} {i : ℕ} (r : ℕ) → Topping file shape arrivals tops i → i < shape .gates →
+      r ≡ last (readyAt (λ node. getD (take (shape .inputs + i) tops) node 0)) (cellAt file shape i .pins) → r ≤ latest
   topping-small {tops} {i} r b h e =
-      omega (arith, topping-value r b h e, tops-small net (holds .valid) (shape .inputs + i))
+      omega (arith, topping-value r b h e, tops-early given (shape .inputs + i))
 
-  pub topping-more : {tops : List ℕ} {i : ℕ} (r : ℕ) → Topping file shape tops i → i < shape .gates →
+  pub topping-more : {tops : List ℕ} {i : ℕ} (r : ℕ) → Topping file shape arrivals tops i → i < shape .gates →
       r ≡ last (readyAt (λ node. getD (take (shape .inputs + i) tops) node 0)) (cellAt file shape i .pins) →
-      Topping file shape (set tops (shape .inputs + i) r) (i + 1)
+      Topping file shape arrivals (set tops (shape .inputs + i) r) (i + 1)
   topping-more {tops} {i} r b h e =
       record {
         long = rw length-set (b .long);
@@ -154,26 +150,26 @@ module _ {file : List ℕ} {shape : Shape} (holds : Holds file shape) where
       }
     where
       pick : (k : ℕ) → k < shape .inputs + (i + 1) → Dec (k ≡ shape .inputs + i) →
-          getD (set tops (shape .inputs + i) r) k 0 ≡ topOf (circuitAt file shape) k
+          getD (set tops (shape .inputs + i) r) k 0 ≡ topOf (circuitAt file shape arrivals) k
       pick k l (yes q) =
           ap (λ (n : ℕ). getD (set tops (shape .inputs + i) r) n 0) q
           ∙ getD-set-same tops (shape .inputs + i) r 0 (omega (arith, b .long))
           ∙ topping-value r b h e
-          ∙ ap (topOf (circuitAt file shape)) (sym q)
+          ∙ ap (topOf (circuitAt file shape arrivals)) (sym q)
       pick k l (no q) = getD-set-other tops (shape .inputs + i) k r 0 q ∙ b .is k (omega arith)
 
   -- all have theirs, and what is after them is zeroed
-  pub topping-ends : {tops : List ℕ} {i : ℕ} (room : ℕ) (zeroed : List ℕ) → Topping file shape tops i →
+  pub topping-ends : {tops : List ℕ} {i : ℕ} (room : ℕ) (zeroed : List ℕ) → Topping file shape arrivals tops i →
       shape .gates ≤ i → length tops ≡ room →
       zeroed
       ≡ take (shape .inputs + shape .gates) tops ++ replicate (length tops - (shape .inputs + shape .gates)) 0 →
-      Topped file shape room zeroed
+      Topped file shape arrivals room zeroed
   topping-ends {tops} {i} room zeroed b h long z =
       let n = shape .inputs + shape .gates in
       let e : length (take n tops) ≡ n = length-take-le n tops (b .long) in
-      let all : take (shape .inputs + shape .gates) tops ≡ topsOf (circuitAt file shape) =
-      ext-getD 0 (take n tops) (topsOf (circuitAt file shape))
-      (e ∙ sym (tops-length (circuitAt file shape) zeros ∙ node-count file shape))
+      let all : take (shape .inputs + shape .gates) tops ≡ topsOf (circuitAt file shape arrivals) =
+      ext-getD 0 (take n tops) (topsOf (circuitAt file shape arrivals))
+      (e ∙ sym (tops-length (circuitAt file shape arrivals) arrives ∙ node-count file shape))
       (λ k l.
       let q : k < shape .inputs + shape .gates = omega arith in
       getD-take n tops k 0 q ∙ b .is k (omega arith))
@@ -181,27 +177,43 @@ module _ {file : List ℕ} {shape : Shape} (holds : Holds file shape) where
       record { is = z ∙ ap₂ (λ (x : List ℕ) (y : ℕ). x ++ replicate (y - n) 0) all long }
 
   -- which begins with the tops
-  pub topped-tops : {room : ℕ} {tops : List ℕ} → Topped file shape room tops → Tops file shape tops
+  pub topped-tops : {room : ℕ} {tops : List ℕ} → Topped file shape arrivals room tops → Tops file shape arrivals tops
   topped-tops {room} w =
       let n = shape .inputs + shape .gates in
       record {
         is =
             ap (take n) (w .is)
-            ∙ take-at (topsOf (circuitAt file shape)) (replicate (room - n) 0) n
-            (tops-length (circuitAt file shape) zeros ∙ node-count file shape);
+            ∙ take-at (topsOf (circuitAt file shape arrivals)) (replicate (room - n) 0) n
+            (tops-length (circuitAt file shape arrivals) arrives ∙ node-count file shape);
       }
 
+  -- and so with the arrivals
+  pub topped-arrivals : {room : ℕ} {tops : List ℕ} → Topped file shape arrivals room tops →
+      take (shape .inputs) tops ≡ arrivals
+  topped-arrivals {room} w =
+      let n = shape .inputs + shape .gates in
+      let long = tops-length (circuitAt file shape arrivals) arrives ∙ node-count file shape in
+      ap (take (shape .inputs)) (w .is)
+      ∙ take-append-le (shape .inputs) (topsOf (circuitAt file shape arrivals)) (replicate (room - n) 0) (omega arith)
+      ∙ ap (λ (k : ℕ). take k (topsOf (circuitAt file shape arrivals))) (sym (given .arrived .long))
+      ∙ tops-begin (circuitAt file shape arrivals)
+
+  -- which can be read off the tops again
+  pub topped-given : {room : ℕ} {tops : List ℕ} → Topped file shape arrivals room tops →
+      Given file shape (take (shape .inputs) tops) × Tops file shape (take (shape .inputs) tops) tops
+  topped-given w = rw (topped-arrivals w) (given, topped-tops w)
+
   -- what is read at a node's number is its top, and small
-  pub top-read : {tops : List ℕ} (f x : ℕ) → Tops file shape tops → f < shape .inputs + shape .gates →
-      x ≡ getD tops f 0 → (x ≡ topOf (circuitAt file shape) f) × (x ≤ 447552)
+  pub top-read : {tops : List ℕ} (f x : ℕ) → Tops file shape arrivals tops → f < shape .inputs + shape .gates →
+      x ≡ getD tops f 0 → (x ≡ topOf (circuitAt file shape arrivals) f) × (x ≤ latest)
   top-read {tops} f x b h e =
-      let q : x ≡ topOf (circuitAt file shape) f =
+      let q : x ≡ topOf (circuitAt file shape arrivals) f =
       e ∙ sym (getD-take (shape .inputs + shape .gates) tops f 0 h) ∙ ap (λ (l : List ℕ). getD l f 0) (b .is)
       in
-      (q, omega (arith, q, tops-small net (holds .valid) f))
+      (q, omega (arith, q, tops-early given f))
 
   -- a slice that begins with the tops is long enough
-  pub tops-long : {tops : List ℕ} → Tops file shape tops → shape .inputs + shape .gates ≤ length tops
+  pub tops-long : {tops : List ℕ} → Tops file shape arrivals tops → shape .inputs + shape .gates ≤ length tops
   tops-long {tops} b =
-      let e = ap length (b .is) ∙ tops-length (circuitAt file shape) zeros ∙ node-count file shape in
+      let e = ap length (b .is) ∙ tops-length (circuitAt file shape arrivals) arrives ∙ node-count file shape in
       omega (arith, length-take (shape .inputs + shape .gates) tops, e)

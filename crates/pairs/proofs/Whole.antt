@@ -9,10 +9,11 @@ use lib.ListN.{length, take, drop, replicate}
 use lib.Seq.{take-at, drop-append-le, length-take-le, length-front}
 use Rattle.netlist.specs.declared.Shape.{Shape}
 use Rattle.netlist.specs.File.{netlistAt, circuitAt}
-use Rattle.netlist.specs.Holds.{Holds}
+use Rattle.netlist.specs.Holds.{Given}
 use Rattle.netlist.proofs.Entries.{node-count}
 use Rattle.settle.specs.Settling.{topOf}
-use Rattle.settle.proofs.Nodes.{tops-small}
+use Rattle.settle.specs.Steps.{latest}
+use Rattle.settle.proofs.Gates.{tops-early}
 use Rattle.pairs.specs.declared.Filled.{Filled}
 use Rattle.pairs.specs.declared.Filled.the-variants.{From, Full}
 use Rattle.pairs.specs.declared.Listed.{Listed}
@@ -110,22 +111,23 @@ held-unique l room t u TooMany (Count m) h k = absurd (omega (arith, h .0, k .0,
 held-unique l room t u TooMany TooMany h k = (h .1 ∙ sym (k .1), refl)
 
 -- a table that begins with the pairs of an accepted file's target lists them: what `place` asks
-pub lists-for : {file : List ℕ} {shape : Shape} (target : ℕ) (table : List ℕ) (n : ℕ) → Holds file shape →
-    n ≡ length (pairsAt file shape target) → take (n * 2) table ≡ flatPairs (pairsAt file shape target) →
-    Lists table n (pairsAt file shape target)
+pub lists-for : {file : List ℕ} {shape : Shape} {arrivals : List ℕ} (target : ℕ) (table : List ℕ) (n : ℕ) →
+    Given file shape arrivals →
+    n ≡ length (pairsAt file shape arrivals target) → take (n * 2) table ≡ flatPairs (pairsAt file shape arrivals target) →
+    Lists table n (pairsAt file shape arrivals target)
 unfolding pairsFor
-lists-for {file} {shape} target table n holds e f =
+lists-for {file} {shape} {arrivals} target table n given e f =
     let net = netlistAt file shape in
     record {
       all = e;
       is = f;
-      rising = pairs-rising (net .inputs) (topOf (circuitAt file shape)) (net .outputs) target (net .gates);
+      rising = pairs-rising (net .inputs) (topOf (circuitAt file shape arrivals)) (net .outputs) target (net .gates);
       nodes-small =
           λ x m.
-          let w = pair-for (circuitAt file shape) (holds .valid) target (x .0) (x .1) m in
-          omega (arith, w .1, node-count file shape, holds .counts .inputs-few, holds .counts .gates-few);
+          let w = pair-for (circuitAt file shape arrivals) (given .holds .valid) target (x .0) (x .1) m in
+          omega (arith, w .1, node-count file shape, given .holds .counts .inputs-few, given .holds .counts .gates-few);
       times-small =
           λ x m.
-          let w = pair-for (circuitAt file shape) (holds .valid) target (x .0) (x .1) m in
-          omega (arith, w .3, tops-small net (holds .valid) (x .0));
+          let w = pair-for (circuitAt file shape arrivals) (given .holds .valid) target (x .0) (x .1) m in
+          omega (arith, w .3, tops-early given (x .0));
     }

@@ -13,19 +13,19 @@ use Rattle.pairs.specs.Rising.{Before, Rising}
 use Rattle.pairs.specs.Table.{Precede}
 
 -- a lent slice of so many numbers is the tops of all nodes, and zeros in all of the rest
-pub record Topped (file : List ℕ) (shape : Shape) (room : ℕ) (tops : List ℕ) : Type 0 where
+pub record Topped (file : List ℕ) (shape : Shape) (arrivals : List ℕ) (room : ℕ) (tops : List ℕ) : Type 0 where
   pub is :
       tops
-      ≡ topsOf (circuitAt file shape)
+      ≡ topsOf (circuitAt file shape arrivals)
       ++ replicate (room - (shape .inputs + shape .gates)) 0
 
 -- a lent slice begins with the tops of all nodes
-pub record Tops (file : List ℕ) (shape : Shape) (tops : List ℕ) : Type 0 where
-  pub is : take (shape .inputs + shape .gates) tops ≡ topsOf (circuitAt file shape)
+pub record Tops (file : List ℕ) (shape : Shape) (arrivals : List ℕ) (tops : List ℕ) : Type 0 where
+  pub is : take (shape .inputs + shape .gates) tops ≡ topsOf (circuitAt file shape arrivals)
 
--- the pairs of an accepted file's target
-abbrev pub pairsAt : List ℕ → Shape → ℕ → List (ℕ × ℕ)
-pairsAt file shape target = pairsFor (circuitAt file shape) target
+-- the pairs of an accepted file's target, with the arrivals of its inputs
+abbrev pub pairsAt : List ℕ → Shape → List ℕ → ℕ → List (ℕ × ℕ)
+pairsAt file shape arrivals target = pairsFor (circuitAt file shape arrivals) target
 
 -- the pairs and then zeros; or, where they are over 65,536 or don't fit the table (row 10), zeros
 abbrev pub Held : List (ℕ × ℕ) → ℕ → List ℕ → Listed → Type 0

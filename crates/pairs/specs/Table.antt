@@ -82,7 +82,7 @@ pub record LastWord (marks : List ℕ) (from r : ℕ) : Type 0 where
 
 -- words beyond this hold no mark: 64 times a word, the latest of them 447,552
 abbrev pub mostWords : ℕ
-mostWords = 6994
+mostWords = 7150
 
 -- ---- what asks for node f at t, where the pairs l are known
 

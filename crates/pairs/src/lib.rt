@@ -7,7 +7,7 @@ ghost use mathlib.Core.List.{List, _∷_, _++_};
 ghost use Prim.Native.Nat.{ℕ, _+_, _*_, _/_, _≤_, _<_, max, min};
 ghost use lib.ListN.{length, getD, take, drop};
 ghost use Rattle.netlist.specs.File.{cellAt};
-ghost use Rattle.netlist.specs.Holds.{Holds};
+ghost use Rattle.netlist.specs.Holds.{Holds, Given};
 ghost use Rattle.settle.specs.Settling.{last, readyAt};
 ghost use Rattle.pairs.specs.Pairs.{pairPlace, tableHolds};
 ghost use Rattle.pairs.specs.Table.{
@@ -92,12 +92,13 @@ fn last_ready(file: &[u8], shape: Shape, number: usize, tops: &[u32]) -> usize
     latest
 }
 
-// The tops of all nodes, inputs first, and zeros after them.
-pub fn tops(file: &[u8], shape: Shape, tops: &mut [u32])
-    requires { ⌜ Holds (now file) shape × (shape .inputs + shape .gates ≤ length (now tops)) ⌝ }
-    ensures { λ _. ⌜ Topped (now (file .entry)) shape (length (now (tops .entry))) (now (tops .exit)) ⌝ }
+// The tops of all nodes, the inputs' arrivals first, and zeros after them.
+pub fn tops(file: &[u8], shape: Shape, arrivals: &[u32], tops: &mut [u32])
+    requires { ⌜ Given (now file) shape (now arrivals) × (shape .inputs + shape .gates ≤ length (now tops)) ⌝ }
+    ensures { λ _. ⌜ Topped (now (file .entry)) shape (now (arrivals .entry)) (length (now (tops .entry)))
+        (now (tops .exit)) ⌝ }
 {
-    lent::zero_u32(&mut tops[..shape.inputs]);
+    lent::copy_u32(arrivals, tops);
     let nodes = shape.inputs + shape.gates;
     let mut i = 0;
     while i < shape.gates {
@@ -336,12 +337,13 @@ fn fill(
     table: &mut [u32],
     marks: &mut [usize],
 ) -> Filled
-    requires { ⌜ Holds (now file) shape × Tops (now file) shape (now tops)
+    requires { ⌜ Given (now file) shape (take (shape .inputs) (now tops))
+        × Tops (now file) shape (take (shape .inputs) (now tops)) (now tops)
         × (length (now table) / 2 * 2 ≡ length (now table)) × ((t : ℕ) → Marked (now marks) t → ⊥)
         × (mostWords < length (now marks)) × (shape .inputs + shape .gates ≤ length (now heads))
         × Chains (Drives (now file) shape (shape .gates)) (now heads) (now links) mostPins ⌝ }
-    ensures { λ r. ⌜ Kept (pairsAt (now (file .entry)) shape target) (length (now (table .entry)) / 2)
-        (now (table .exit)) r ⌝ }
+    ensures { λ r. ⌜ Kept (pairsAt (now (file .entry)) shape (take (shape .inputs) (now (tops .entry))) target)
+        (length (now (table .entry)) / 2) (now (table .exit)) r ⌝ }
 {
     let mut at = table.len() / 2;
     let mut f = shape.inputs + shape.gates;
@@ -407,14 +409,15 @@ fn holds(numbers: usize) -> usize
 }
 
 // The pairs of a target by node rising, then time rising, and zeros after them; or, where they are more than the table
-// holds, zeros.
+// holds, zeros. The arrivals are the inputs' tops.
 pub fn table(file: &[u8], shape: Shape, target: usize, tops: &[u32], table: &mut [u32]) -> Listed
-    requires { ⌜ Holds (now file) shape × Tops (now file) shape (now tops) ⌝ }
-    ensures { λ r. ⌜ Held (pairsAt (now (file .entry)) shape target) (length (now (table .entry)))
-        (now (table .exit)) r ⌝ }
+    requires { ⌜ Given (now file) shape (take (shape .inputs) (now tops))
+        × Tops (now file) shape (take (shape .inputs) (now tops)) (now tops) ⌝ }
+    ensures { λ r. ⌜ Held (pairsAt (now (file .entry)) shape (take (shape .inputs) (now (tops .entry))) target)
+        (length (now (table .entry))) (now (table .exit)) r ⌝ }
 {
     let room = holds(table.len());
-    let mut marks = [0usize; 6995];
+    let mut marks = [0usize; 7151];
     let mut heads = [0u32; 512];
     let mut links = [0u32; 3584];
     link(file, shape, &mut heads, &mut links);

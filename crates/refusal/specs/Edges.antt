@@ -20,6 +20,7 @@ use Rattle.refusal.specs.declared.Refusal.the-variants.{
   Last,
   Step,
   Witness,
+  Arrival,
 }
 use Rattle.refusal.specs.Table.{numberOf, placeOf}
 
@@ -49,7 +50,8 @@ edges =
     ∷ case (Refutation 98) 12 98
     ∷ case (Last 97) 13 97
     ∷ case (Step 96) 14 96
-    ∷ case (Witness 95) 15 95 ∷ []
+    ∷ case (Witness 95) 15 95
+    ∷ case (Arrival 94) 16 94 ∷ []
 
 -- a row's refusal with the number and the place that the definitions give it
 abbrev pub asTold : Case → Case

@@ -17,6 +17,7 @@ use Rattle.refusal.specs.declared.Refusal.the-variants.{
   Last,
   Step,
   Witness,
+  Arrival,
 }
 
 -- column "Number"
@@ -36,6 +37,7 @@ numberOf (Refutation index) = 12
 numberOf (Last clause) = 13
 numberOf (Step clause) = 14
 numberOf (Witness time) = 15
+numberOf (Arrival position) = 16
 
 -- column "Its place"
 abbrev pub placeOf : Refusal → ℕ
@@ -54,3 +56,4 @@ placeOf (Refutation index) = index
 placeOf (Last clause) = clause
 placeOf (Step clause) = clause
 placeOf (Witness time) = time
+placeOf (Arrival position) = position

@@ -19,6 +19,7 @@ pub enum Refusal {
     Last(usize),
     Step(usize),
     Witness(u32),
+    Arrival(usize),
 }
 
 // What rows of the table say of what a call was given: it passes them all, or the first that refuses.
@@ -47,6 +48,7 @@ pub fn number(refusal: Refusal) -> u32
         Refusal::Last(_) => 13,
         Refusal::Step(_) => 14,
         Refusal::Witness(_) => 15,
+        Refusal::Arrival(_) => 16,
     }
 }
 
@@ -70,5 +72,6 @@ pub fn place(refusal: Refusal) -> usize
         Refusal::Last(clause) => clause,
         Refusal::Step(clause) => clause,
         Refusal::Witness(time) => time as usize,
+        Refusal::Arrival(position) => position,
     }
 }

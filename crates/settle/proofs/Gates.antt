@@ -13,7 +13,6 @@ use lib.ListN.{
   take,
   drop,
   set,
-  replicate,
   length-map,
   length-take,
   List·getD-map,
@@ -26,26 +25,26 @@ use Rattle.netlist.specs.declared.Gate.{Gate}
 use Rattle.netlist.specs.Netlist.{Cell, Pin, nodes, takes}
 use Rattle.netlist.specs.Kinds.{bit}
 use Rattle.netlist.specs.File.{gateAt, cellAt, cellOf, netlistAt, circuitAt, pinsFrom, firstAt, countAt}
-use Rattle.netlist.specs.Holds.{Holds}
+use Rattle.netlist.specs.Holds.{Holds, Arrived, Given}
 use Rattle.netlist.proofs.Entries.{node-has, node-count, net-inputs}
 use Rattle.netlist.proofs.GateRead.{gate-fields, gate-within, gate-takes}
 use Rattle.settle.specs.declared.Signal.{Signal}
-use Rattle.settle.specs.Settling.{readyAt, valuesOf, valueOf, timesOf, timeOf}
+use Rattle.settle.specs.Settling.{readyAt, valuesOf, valueOf, timesOf, timeOf, topOf}
 use Rattle.settle.specs.Promise.{bits}
-use Rattle.settle.specs.Steps.{pinValue, pinReady, gateSignal, Wired, Begun, Done}
+use Rattle.settle.specs.Steps.{latest, pinValue, pinReady, gateSignal, Wired, Begun, Done}
 use Rattle.settle.proofs.Argument.{settles-cong, gateValue-cong}
 use Rattle.settle.proofs.Nodes.{
   Arrives,
-  zero-arrives,
   laid,
   runs,
   values-length,
   times-length,
   values-begin,
   times-begin,
+  tops-small,
   times-small,
 }
-use Rattle.settle.proofs.Filling.{Filled, filled-starts, filled-done, filled-length, filled-more, filled-ends}
+use Rattle.lent.proofs.Filling.{Filled, filled-starts, filled-done, filled-length, filled-more, filled-ends}
 
 -- ---- lists
 
@@ -77,16 +76,27 @@ bit-back false = refl
 abbrev pub allValues : List ℕ → Shape → List Bool → List ℕ
 allValues file shape vector = map bit (valuesOf (netlistAt file shape) vector)
 
-abbrev pub allTimes : List ℕ → Shape → List Bool → List ℕ
-allTimes file shape vector = timesOf (circuitAt file shape) vector
+abbrev pub allTimes : List ℕ → Shape → List ℕ → List Bool → List ℕ
+allTimes file shape arrivals vector = timesOf (circuitAt file shape arrivals) vector
 
-module _ {file : List ℕ} {shape : Shape} (h : Holds file shape) (vector : List Bool)
-    (long : length vector ≡ shape .inputs) where
+-- an arrival for each of the netlist's inputs
+pub net-arrives : (file : List ℕ) {shape : Shape} {arrivals : List ℕ} → Arrived shape arrivals →
+    Arrives (circuitAt file shape arrivals)
+net-arrives file {shape} a = a .long ∙ sym (net-inputs file shape)
+
+-- so that no top is too late
+pub tops-early : {file : List ℕ} {shape : Shape} {arrivals : List ℕ} → Given file shape arrivals → (n : ℕ) →
+    topOf (circuitAt file shape arrivals) n ≤ latest
+tops-early {file} {shape} {arrivals} g n =
+    tops-small (circuitAt file shape arrivals) (g .holds .valid) (net-arrives file (g .arrived)) (g .arrived .early) n
+
+module _ {file : List ℕ} {shape : Shape} {arrivals : List ℕ} (h : Holds file shape) (at : Arrived shape arrivals)
+    (vector : List Bool) (long : length vector ≡ shape .inputs) where
   vector-long : length vector ≡ netlistAt file shape .inputs
   vector-long = long ∙ sym (net-inputs file shape)
 
-  zeros-long : Arrives (circuitAt file shape)
-  zeros-long = zero-arrives (netlistAt file shape)
+  arrives : Arrives (circuitAt file shape arrivals)
+  arrives = net-arrives file at
 
   pub all-values-length : length (allValues file shape vector) ≡ shape .inputs + shape .gates
   all-values-length =
@@ -94,9 +104,9 @@ module _ {file : List ℕ} {shape : Shape} (h : Holds file shape) (vector : List
       ∙ values-length (netlistAt file shape) vector vector-long
       ∙ node-count file shape
 
-  pub all-times-length : length (allTimes file shape vector) ≡ shape .inputs + shape .gates
+  pub all-times-length : length (allTimes file shape arrivals vector) ≡ shape .inputs + shape .gates
   all-times-length =
-      times-length (circuitAt file shape) vector zeros-long ∙ node-count file shape
+      times-length (circuitAt file shape arrivals) vector arrives ∙ node-count file shape
 
   -- the inputs come first
   pub all-values-begin : take (shape .inputs) (allValues file shape vector) ≡ map bit vector
@@ -106,11 +116,10 @@ module _ {file : List ℕ} {shape : Shape} (h : Holds file shape) (vector : List
       (ap (λ (n : ℕ). take n (valuesOf (netlistAt file shape) vector)) (sym long)
       ∙ values-begin (netlistAt file shape) vector)
 
-  pub all-times-begin : take (shape .inputs) (allTimes file shape vector) ≡ replicate (shape .inputs) 0
+  pub all-times-begin : take (shape .inputs) (allTimes file shape arrivals vector) ≡ arrivals
   all-times-begin =
-      ap (λ (n : ℕ). take n (allTimes file shape vector)) (sym (net-inputs file shape) ∙ sym zeros-long)
-      ∙ times-begin (circuitAt file shape) vector
-      ∙ ap (λ (n : ℕ). replicate n 0) (net-inputs file shape)
+      ap (λ (n : ℕ). take n (allTimes file shape arrivals vector)) (sym (at .long))
+      ∙ times-begin (circuitAt file shape arrivals) vector
 
   -- one gate, over the nodes before it
   module _ (number : ℕ) (within : number < shape .gates) where
@@ -118,7 +127,7 @@ module _ {file : List ℕ} {shape : Shape} (h : Holds file shape) (vector : List
     doneValues = take (shape .inputs + number) (allValues file shape vector)
 
     abbrev doneTimes : List ℕ
-    doneTimes = take (shape .inputs + number) (allTimes file shape vector)
+    doneTimes = take (shape .inputs + number) (allTimes file shape arrivals vector)
 
     member : List·Memᴰ {A = ℕ × Cell} (shape .inputs + number, cellAt file shape number) (nodes (netlistAt file shape))
     member = node-has file shape number within
@@ -136,10 +145,10 @@ module _ {file : List ℕ} {shape : Shape} (h : Holds file shape) (vector : List
 
     pin-ready : (p : Pin) → List·Memᴰ p (cellAt file shape number .pins) →
         pinReady doneTimes p
-        ≡ readyAt (timeOf (circuitAt file shape) vector) p
+        ≡ readyAt (timeOf (circuitAt file shape arrivals) vector) p
     pin-ready p i =
         ap (λ (t : ℕ). t + p .delay)
-        (getD-take (shape .inputs + number) (allTimes file shape vector) (p .driver) 0 (driver-below p i))
+        (getD-take (shape .inputs + number) (allTimes file shape arrivals vector) (p .driver) 0 (driver-below p i))
 
     -- what the gate gives is the netlist's value and time at its node
     pub gate-settled : (gate : Gate) → gate ≡ gateAt file shape number →
@@ -147,12 +156,12 @@ module _ {file : List ℕ} {shape : Shape} (h : Holds file shape) (vector : List
         ≡ record {
           value = valueOf (netlistAt file shape) vector (shape .inputs + number);
           at =
-              timeOf (circuitAt file shape) vector (shape .inputs + number);
+              timeOf (circuitAt file shape arrivals) vector (shape .inputs + number);
         }
     unfolding gateSignal pinsFrom cellAt cellOf
     gate-settled gate e =
         let facts =
-        runs (circuitAt file shape) (h .valid) zeros-long vector vector-long
+        runs (circuitAt file shape arrivals) (h .valid) arrives vector vector-long
         in
         ap (λ (g : Gate). gateSignal doneValues doneTimes (g .kind) (pinsFrom file shape (g .first) (g .count))) e
         ∙ ap₂ (λ (v : Bool) (t : ℕ). record { value = v; at = t })
@@ -160,7 +169,7 @@ module _ {file : List ℕ} {shape : Shape} (h : Holds file shape) (vector : List
         (cellAt file shape number .kind) (cellAt file shape number .pins) pin-value
         ∙ sym (facts .value-fixed _ _ member))
         (settles-cong (pinValue doneValues) (λ (p : Pin). valueOf (netlistAt file shape) vector (p .driver))
-        (pinReady doneTimes) (readyAt (timeOf (circuitAt file shape) vector))
+        (pinReady doneTimes) (readyAt (timeOf (circuitAt file shape arrivals) vector))
         (cellAt file shape number .kind) (cellAt file shape number .pins) pin-value pin-ready
         ∙ sym (facts .time-fixed _ _ member))
 
@@ -173,7 +182,7 @@ module _ {file : List ℕ} {shape : Shape} (h : Holds file shape) (vector : List
         length-take-le (shape .inputs + number) (allValues file shape vector) (omega (arith, all-values-length))
         in
         let b : length doneTimes ≡ shape .inputs + number =
-        length-take-le (shape .inputs + number) (allTimes file shape vector) (omega (arith, all-times-length))
+        length-take-le (shape .inputs + number) (allTimes file shape arrivals vector) (omega (arith, all-times-length))
         in
         record {
           tables = h .tables;
@@ -187,8 +196,8 @@ module _ {file : List ℕ} {shape : Shape} (h : Holds file shape) (vector : List
               omega (arith, h .drivers-below number pin within low high);
           paired = b ∙ sym a;
           early =
-              take-within 447552 (shape .inputs + number) (allTimes file shape vector)
-              (times-small (netlistAt file shape) (h .valid) vector);
+              take-within latest (shape .inputs + number) (allTimes file shape arrivals vector)
+              (times-small (circuitAt file shape arrivals) (h .valid) arrives (at .early) vector);
         }
 
 -- ---- the loop's invariant: the inputs' nodes and those of the first gates are done
@@ -198,12 +207,16 @@ pub record Gating (file : List ℕ) (shape : Shape) (values₀ times₀ values t
   pub values-done :
       Filled (allValues file shape (bits (take (shape .inputs) values₀))) values₀ values (shape .inputs + number)
   pub times-done :
-      Filled (allTimes file shape (bits (take (shape .inputs) values₀))) times₀ times (shape .inputs + number)
+      Filled (allTimes file shape (take (shape .inputs) times₀) (bits (take (shape .inputs) values₀))) times₀ times
+      (shape .inputs + number)
 
 module _ {file : List ℕ} {shape : Shape} {values₀ times₀ : List ℕ} (h : Holds file shape)
     (b : Begun shape values₀ times₀) where
   abbrev vector : List Bool
   vector = bits (take (shape .inputs) values₀)
+
+  abbrev arrivals : List ℕ
+  arrivals = take (shape .inputs) times₀
 
   vector-is : length vector ≡ shape .inputs
   vector-is =
@@ -213,18 +226,18 @@ module _ {file : List ℕ} {shape : Shape} {values₀ times₀ : List ℕ} (h : 
   pub gating-starts : Gating file shape values₀ times₀ values₀ times₀ 0
   gating-starts =
       let z : shape .inputs ≡ shape .inputs + 0 = omega arith in
-      let a = all-values-length h vector vector-is in
-      let t = all-times-length h vector vector-is in
+      let a = all-values-length h (b .arrived) vector vector-is in
+      let t = all-times-length h (b .arrived) vector vector-is in
       record {
         upto = omega arith;
         values-done =
             subst (Filled (allValues file shape vector) values₀ values₀) z
             (filled-starts values₀ (shape .inputs) (omega arith) (omega (arith, b .values-room))
-            (b .inputs ∙ sym (all-values-begin h vector vector-is)));
+            (b .inputs ∙ sym (all-values-begin h (b .arrived) vector vector-is)));
         times-done =
-            subst (Filled (allTimes file shape vector) times₀ times₀) z
+            subst (Filled (allTimes file shape arrivals vector) times₀ times₀) z
             (filled-starts times₀ (shape .inputs) (omega arith) (omega (arith, b .times-room))
-            (b .zeros ∙ sym (all-times-begin h vector vector-is)));
+            (sym (all-times-begin h (b .arrived) vector vector-is)));
       }
 
   module _ {values times : List ℕ} {number : ℕ} (g : Gating file shape values₀ times₀ values times number) where
@@ -241,7 +254,7 @@ module _ {file : List ℕ} {shape : Shape} {values₀ times₀ : List ℕ} (h : 
           (take (shape .inputs + number) times)
       gating-wired =
           rw (filled-done (g .values-done), filled-done (g .times-done))
-          (gate-wired h vector vector-is number within gate e)
+          (gate-wired h (b .arrived) vector vector-is number within gate e)
 
       pub gating-takes : T (takes (gate .kind) (gate .count))
       gating-takes = gate-takes gate h within e
@@ -258,14 +271,14 @@ module _ {file : List ℕ} {shape : Shape} {values₀ times₀ : List ℕ} (h : 
           (number + 1)
       gating-more signal stored s q =
           let n : shape .inputs + number + 1 ≡ shape .inputs + (number + 1) = omega arith in
-          let a = all-values-length h vector vector-is in
-          let t = all-times-length h vector vector-is in
+          let a = all-values-length h (b .arrived) vector vector-is in
+          let t = all-times-length h (b .arrived) vector vector-is in
           let is =
           s
           ∙ ap₂ (λ (x y : List ℕ). gateSignal x y (gate .kind) (pinsFrom file shape (gate .first) (gate .count)))
           (filled-done (g .values-done))
           (filled-done (g .times-done))
-          ∙ gate-settled h vector vector-is number within gate e
+          ∙ gate-settled h (b .arrived) vector vector-is number within gate e
           in
           record {
             upto = omega arith;
@@ -275,7 +288,7 @@ module _ {file : List ℕ} {shape : Shape} {values₀ times₀ : List ℕ} (h : 
                 (q ∙ ap (λ (x : Signal). bit (x .value)) is
                 ∙ sym (List·getD-map bit (valuesOf (netlistAt file shape) vector) (shape .inputs + number) false)));
             times-done =
-                subst (Filled (allTimes file shape vector) times₀ (set times (shape .inputs + number) (signal .at))) n
+                subst (Filled (allTimes file shape arrivals vector) times₀ (set times (shape .inputs + number) (signal .at))) n
                 (filled-more (g .times-done) (signal .at) 0 (omega arith) (ap (λ (x : Signal). x .at) is));
           }
 
@@ -283,13 +296,13 @@ module _ {file : List ℕ} {shape : Shape} {values₀ times₀ : List ℕ} (h : 
     all-done : shape .gates ≤ number → shape .inputs + number ≡ shape .inputs + shape .gates
     all-done l = omega (arith, g .upto)
 
-    pub gating-ends : shape .gates ≤ number → Done file shape vector values₀ times₀ values times
+    pub gating-ends : shape .gates ≤ number → Done file shape arrivals vector values₀ times₀ values times
     gating-ends l =
         record {
           values-are =
-              filled-ends (g .values-done) (omega (arith, all-values-length h vector vector-is))
+              filled-ends (g .values-done) (omega (arith, all-values-length h (b .arrived) vector vector-is))
               ∙ ap (λ (n : ℕ). allValues file shape vector ++ drop n values₀) (all-done l);
           times-are =
-              filled-ends (g .times-done) (omega (arith, all-times-length h vector vector-is))
-              ∙ ap (λ (n : ℕ). allTimes file shape vector ++ drop n times₀) (all-done l);
+              filled-ends (g .times-done) (omega (arith, all-times-length h (b .arrived) vector vector-is))
+              ∙ ap (λ (n : ℕ). allTimes file shape arrivals vector ++ drop n times₀) (all-done l);
         }

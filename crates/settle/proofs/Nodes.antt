@@ -2,8 +2,8 @@
 -- an input's entries, and no time beyond its top, by strong induction on the node. Laws: laid and runs, the facts in
 -- two records (Laid, Runs) that the formula's theorem reads; input-value, input-at, input-top; values-length,
 -- times-length, tops-length; values-begin, times-begin; input-or-gate; tops-within, times-within (arrivals of at most
--- `late`), and with all arrivals zero tops-small, times-small, circuit-small (at most 448 * 999); circuit-late. Assumes
--- nothing.
+-- `late`), and with accepted arrivals tops-small, times-small, circuit-small; zero-time and zero-top (all inputs at 0);
+-- circuit-late. Assumes nothing.
 use mathlib.Core.Path.{_≡_, refl, sym, ap, _∙_, subst}
 use mathlib.Core.Bool.{Bool, false}
 use mathlib.Core.List.{List, [], List·Memᴰ}
@@ -16,6 +16,7 @@ use Rattle.basics.specs.Lists.{any}
 use Rattle.basics.proofs.Truth.{decide}
 use Rattle.basics.proofs.Lists.{all-at}
 use Rattle.netlist.specs.Netlist.{Netlist, Circuit, Cell, Pin, atZero, nodes, nodeCount, takes, gateFits, valid}
+use Rattle.netlist.specs.Open.{latestArrival}
 use Rattle.netlist.proofs.Ranges.{numbered-has, numbered-only}
 use Rattle.netlist.proofs.Valid.{valid-gates, valid-gates-few, fits-takes, fits-below, fits-small}
 use Rattle.netlist.specs.declared.Kind.the-variants.{Mux}
@@ -32,6 +33,7 @@ use Rattle.settle.specs.Settling.{
   topOf,
   circuitTime,
 }
+use Rattle.settle.specs.Steps.{latest}
 use Rattle.settle.proofs.Cubes.{settles-last}
 use Rattle.settle.proofs.Argument.{
   settles-cong,
@@ -322,28 +324,37 @@ module _ (circuit : Circuit) (v : T (valid (circuit .net))) (e : Arrives circuit
           let z = List·getD-eq-default (timesOf circuit vector) 0 {n = n} l in
           omega arith
 
--- ---- all inputs arrive at 0
+-- ---- arrivals that row 16 accepts
 
-pub zero-arrives : (net : Netlist) → Arrives (atZero net)
-zero-arrives net = length-replicate (net .inputs) 0
-
-module _ (net : Netlist) (v : T (valid net)) where
-  zero-arrival : (n : ℕ) → n < net .inputs → getD (atZero net .arrivals) n 0 ≤ 0
-  zero-arrival n h = let e = getD-replicate {A = ℕ} (net .inputs) n 0 0 h in omega arith
-
-  -- no top is above 448 * 999
-  pub tops-small : (n : ℕ) → topOf (atZero net) n ≤ 447552
-  tops-small n = let b = tops-within (atZero net) v (zero-arrives net) 0 zero-arrival n in omega arith
+module _ (circuit : Circuit) (v : T (valid (circuit .net))) (e : Arrives circuit)
+    (early : (n : ℕ) → getD (circuit .arrivals) n 0 ≤ latestArrival) where
+  -- no top is above 448 * 999 after the latest arrival
+  pub tops-small : (n : ℕ) → topOf circuit n ≤ latest
+  tops-small n = let b = tops-within circuit v e latestArrival (λ n h. early n) n in omega arith
 
   -- nor any time
-  pub times-small : (vector : List Bool) (n : ℕ) → timeOf (atZero net) vector n ≤ 447552
-  times-small vector n = let b = times-within (atZero net) v (zero-arrives net) 0 zero-arrival vector n in omega arith
+  pub times-small : (vector : List Bool) (n : ℕ) → timeOf circuit vector n ≤ latest
+  times-small vector n = let b = times-within circuit v e latestArrival (λ n h. early n) vector n in omega arith
 
   -- nor the circuit's
-  pub circuit-small : (vector : List Bool) → circuitTime (atZero net) vector ≤ 447552
+  pub circuit-small : (vector : List Bool) → circuitTime circuit vector ≤ latest
   unfolding circuitTime
   circuit-small vector =
-      last-within (timeOf (atZero net) vector) (net .outputs) 447552 (λ o m. times-small vector o)
+      last-within (timeOf circuit vector) (circuit .net .outputs) latest (λ o m. times-small vector o)
+
+-- ---- all inputs arrive at 0: what the rules say without arrivals
+
+module _ (net : Netlist) where
+  pub zero-arrives : Arrives (atZero net)
+  zero-arrives = length-replicate (net .inputs) 0
+
+  -- an input settles at 0, and its top is 0
+  pub zero-time : (vector : List Bool) (n : ℕ) → n < net .inputs → timeOf (atZero net) vector n ≡ 0
+  zero-time vector n h =
+      input-at (atZero net) vector zero-arrives n h ∙ getD-replicate {A = ℕ} (net .inputs) n 0 0 h
+
+  pub zero-top : (n : ℕ) → n < net .inputs → topOf (atZero net) n ≡ 0
+  zero-top n h = input-top (atZero net) zero-arrives n h ∙ getD-replicate {A = ℕ} (net .inputs) n 0 0 h
 
 -- the circuit settles at t+1 or later exactly when some output does
 pub circuit-late : (circuit : Circuit) (vector : List Bool) (t : ℕ) →

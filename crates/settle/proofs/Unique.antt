@@ -13,9 +13,10 @@ pub same-outcome : {promised : Evaluation} {a b : Settled} {values times values�
 same-outcome m n =
     (m .answer-is ∙ sym (n .answer-is), m .values-are ∙ sym (n .values-are), m .times-are ∙ sym (n .times-are))
 
--- so two calls of `evaluate` on the same file, vector and rooms end alike
-pub unique : (file vector : List ℕ) (valuesRoom timesRoom : ℕ) {a b : Settled} {values times values′ times′ : List ℕ} →
-    Meets (evaluation file vector valuesRoom timesRoom) a values times →
-    Meets (evaluation file vector valuesRoom timesRoom) b values′ times′ →
+-- so two calls of `evaluate` on the same file, arrivals, vector and rooms end alike
+pub unique : (file arrivals vector : List ℕ) (valuesRoom timesRoom : ℕ) {a b : Settled}
+    {values times values′ times′ : List ℕ} →
+    Meets (evaluation file arrivals vector valuesRoom timesRoom) a values times →
+    Meets (evaluation file arrivals vector valuesRoom timesRoom) b values′ times′ →
     (a ≡ b) × (values ≡ values′) × (times ≡ times′)
-unique file vector valuesRoom timesRoom m n = same-outcome m n
+unique file arrivals vector valuesRoom timesRoom m n = same-outcome m n

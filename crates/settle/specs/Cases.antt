@@ -1,13 +1,14 @@
 -- The cases of rule X3 on settling, on the bytes of their files: one table, and one statement over it; and the tops of
--- circuit A. Interface: Case, cases, cases-hold, tops-hold.
+-- circuit A. Interface: Case, cases, lateCases, cases-hold, tops-hold.
 use mathlib.Core.Path.{_≡_, refl}
-use mathlib.Core.List.{List, [], _∷_, map}
+use mathlib.Core.List.{List, [], _∷_, _++_, map}
 use Prim.Native.Nat.{ℕ}
-use lib.ListN.{length}
+use lib.ListN.{length, replicate}
 use Rattle.netlist.specs.Kinds.{kinds, kindRow}
 use Rattle.netlist.specs.File.{tableBytes, shapeOf, gateAt, pinAt, cellOf, cellAt, netlistAt, circuitOf, pinsFrom}
 use Rattle.netlist.specs.Open.{
   netlistRows,
+  arrivalRows,
   firstWrong,
   countWrong,
   backWrong,
@@ -22,13 +23,15 @@ use Rattle.netlist.specs.Open.{
   outputPlace,
 }
 use Rattle.netlist.specs.Example.{circuitA}
+use Rattle.netlist.specs.Edges.{written}
 use Rattle.settle.specs.declared.Settled.the-variants.{At}
 use Rattle.settle.specs.Settling.{gateValue, settles, grow, valuesOf, timesOf, topsOf, circuitTime}
-use Rattle.settle.specs.Promise.{Evaluation, evaluation, givenRows, settled, byteWrong}
+use Rattle.settle.specs.Promise.{Evaluation, evaluation, givenRows, settled}
 
--- one case: a file, a vector, and what an evaluation with just enough room gives
+-- one case: a file, the arrivals of its inputs, a vector, and what an evaluation with just enough room gives
 pub record Case : Type 0 where
   pub file : List ℕ
+  pub arrivals : List ℕ
   pub vector : List ℕ
   pub expected : Evaluation
 
@@ -50,9 +53,15 @@ muxOfThree =
 abbrev settlesAt : ℕ → List ℕ → List ℕ → Evaluation
 settlesAt time values times = record { answer = At time; values = values; times = times }
 
--- a file, a vector, and what they give
+-- a file whose inputs arrive at 0, a vector, and what they give
 abbrev case : List ℕ → List ℕ → Evaluation → Case
-case file vector expected = record { file = file; vector = vector; expected = expected }
+case file vector expected =
+    record { file = file; arrivals = replicate (length vector) 0; vector = vector; expected = expected }
+
+-- circuit A with the arrivals of a and b
+abbrev arriving : List ℕ → List ℕ → Evaluation → Case
+arriving arrivals vector expected =
+    record { file = circuitA; arrivals = arrivals; vector = vector; expected = expected }
 
 -- the table
 unfoldable pub cases : List Case
@@ -72,20 +81,39 @@ cases =
     ∷ case muxOfThree (1 ∷ 1 ∷ 0 ∷ []) (settlesAt 9 (1 ∷ 1 ∷ 0 ∷ 0 ∷ []) (0 ∷ 0 ∷ 0 ∷ 9 ∷ []))
     ∷ case muxOfThree (1 ∷ 1 ∷ 1 ∷ []) (settlesAt 9 (1 ∷ 1 ∷ 1 ∷ 1 ∷ []) (0 ∷ 0 ∷ 0 ∷ 9 ∷ [])) ∷ []
 
+-- circuit A with b at 4, on each vector, and with a at 9,999; an input that is an output and arrives at 7
+unfoldable pub lateCases : List Case
+lateCases =
+    arriving (0 ∷ 4 ∷ []) (0 ∷ 0 ∷ []) (settlesAt 5 (0 ∷ 0 ∷ 0 ∷ 0 ∷ 0 ∷ []) (0 ∷ 4 ∷ 3 ∷ 4 ∷ 5 ∷ []))
+    ∷ arriving (0 ∷ 4 ∷ []) (0 ∷ 1 ∷ []) (settlesAt 5 (0 ∷ 1 ∷ 0 ∷ 0 ∷ 1 ∷ []) (0 ∷ 4 ∷ 3 ∷ 4 ∷ 5 ∷ []))
+    ∷ arriving (0 ∷ 4 ∷ []) (1 ∷ 0 ∷ []) (settlesAt 6 (1 ∷ 0 ∷ 1 ∷ 0 ∷ 0 ∷ []) (0 ∷ 4 ∷ 3 ∷ 5 ∷ 6 ∷ []))
+    ∷ arriving (0 ∷ 4 ∷ []) (1 ∷ 1 ∷ []) (settlesAt 5 (1 ∷ 1 ∷ 1 ∷ 1 ∷ 1 ∷ []) (0 ∷ 4 ∷ 3 ∷ 5 ∷ 5 ∷ []))
+    ∷ arriving (9999 ∷ 0 ∷ []) (0 ∷ 1 ∷ [])
+    (settlesAt 1 (0 ∷ 1 ∷ 0 ∷ 0 ∷ 1 ∷ []) (9999 ∷ 0 ∷ 10002 ∷ 10003 ∷ 1 ∷ []))
+    ∷ record {
+      file = written 1 [] [] (0 ∷ []);
+      arrivals = 7 ∷ [];
+      vector = 1 ∷ [];
+      expected = settlesAt 7 (1 ∷ []) (7 ∷ []);
+    }
+    ∷ []
+
 -- the evaluation of a case
 abbrev run : Case → Evaluation
-run c = evaluation (c .file) (c .vector) (length (c .expected .values)) (length (c .expected .times))
+run c = evaluation (c .file) (c .arrivals) (c .vector) (length (c .expected .values)) (length (c .expected .times))
 
 -- each case is evaluated as expected
-pub cases-hold : map run cases ≡ map (λ c. c .expected) cases
+pub cases-hold : map run (cases ++ lateCases) ≡ map (λ c. c .expected) (cases ++ lateCases)
 unfolding
-    cases circuitA xorTwice muxOfThree netlistRows firstWrong countWrong backWrong pinsBefore gateWrong gatePlace
+    cases lateCases written circuitA xorTwice muxOfThree netlistRows firstWrong countWrong backWrong pinsBefore gateWrong gatePlace
     sumWrong pinsAt pinWrong pinPlace outputWrong outputPlace kinds kindRow tableBytes shapeOf gateAt pinAt
     pinsFrom cellOf cellAt netlistAt gateValue settles grow valuesOf timesOf circuitTime evaluation givenRows settled
-    byteWrong
+    arrivalRows
 cases-hold = refl
 
--- the tops of circuit A: its topological delay is 5
-pub tops-hold : topsOf (circuitOf circuitA) ≡ 0 ∷ 0 ∷ 3 ∷ 4 ∷ 5 ∷ []
+-- the tops of circuit A: its topological delay is 5, and 6 with b at 4
+pub tops-hold :
+    (topsOf (circuitOf circuitA (0 ∷ 0 ∷ [])) ≡ 0 ∷ 0 ∷ 3 ∷ 4 ∷ 5 ∷ [])
+    × (topsOf (circuitOf circuitA (0 ∷ 4 ∷ [])) ≡ 0 ∷ 4 ∷ 3 ∷ 5 ∷ 6 ∷ [])
 unfolding circuitA kinds kindRow tableBytes shapeOf gateAt pinAt pinsFrom cellOf cellAt netlistAt grow topsOf
-tops-hold = refl
+tops-hold = (refl, refl)

@@ -5,11 +5,12 @@ use mathlib.Core.List.{List, [], _∷_, _++_, map}
 use Prim.Native.Nat.{ℕ}
 use lib.ListN.{length, replicate}
 use Rattle.refusal.specs.declared.Refusal.{Refusal}
-use Rattle.refusal.specs.declared.Refusal.the-variants.{Short, Gate, Output, Vector, Room}
+use Rattle.refusal.specs.declared.Refusal.the-variants.{Short, Gate, Output, Arrival, Vector, Room}
 use Rattle.netlist.specs.Kinds.{kinds, kindRow}
 use Rattle.netlist.specs.File.{tableBytes, shapeOf, gateAt, pinAt, cellOf, cellAt, netlistAt, pinsFrom}
 use Rattle.netlist.specs.Open.{
   netlistRows,
+  arrivalRows,
   firstWrong,
   countWrong,
   backWrong,
@@ -27,7 +28,7 @@ use Rattle.netlist.specs.Example.{circuitA}
 use Rattle.netlist.specs.Edges.{written, oneGate}
 use Rattle.settle.specs.declared.Settled.the-variants.{At}
 use Rattle.settle.specs.Settling.{gateValue, settles, grow, valuesOf, timesOf, circuitTime}
-use Rattle.settle.specs.Promise.{Evaluation, refused, evaluation, givenRows, settled, byteWrong}
+use Rattle.settle.specs.Promise.{Evaluation, refused, evaluation, givenRows, settled}
 use Rattle.settle.specs.Cases.{Case}
 
 -- a circuit of one gate: kind, delays, vector, and the gate's value and time
@@ -35,6 +36,7 @@ abbrev gives : ℕ → List ℕ → List ℕ → ℕ → ℕ → Case
 gives kind delays vector value time =
     record {
       file = oneGate kind delays;
+      arrivals = replicate (length vector) 0;
       vector = vector;
       expected =
           record {
@@ -73,13 +75,22 @@ everyKind =
     ∷ gives 3 three (0 ∷ 1 ∷ 0 ∷ []) 0 2 ∷ gives 4 three (0 ∷ 1 ∷ 0 ∷ []) 1 2
     ∷ gives 5 three (1 ∷ 0 ∷ 1 ∷ []) 1 2 ∷ gives 6 three (1 ∷ 0 ∷ 1 ∷ []) 0 2 ∷ []
 
--- a file, a vector, the two rooms, and the refusal
-abbrev refuses : List ℕ → List ℕ → ℕ → ℕ → Refusal → Case
-refuses file vector valuesRoom timesRoom refusal =
-    record { file = file; vector = vector; expected = refused valuesRoom timesRoom refusal }
+-- a file, arrivals, a vector, the two rooms, and the refusal
+abbrev refusesWith : List ℕ → List ℕ → List ℕ → ℕ → ℕ → Refusal → Case
+refusesWith file arrivals vector valuesRoom timesRoom refusal =
+    record {
+      file = file;
+      arrivals = arrivals;
+      vector = vector;
+      expected = refused valuesRoom timesRoom refusal;
+    }
 
--- 1 to 7 before 8; the vector's length before its bytes, and the first wrong byte; 8 before 9; each slice one short,
--- both, and more room than needed
+-- two inputs that arrive at 0
+abbrev refuses : List ℕ → List ℕ → ℕ → ℕ → Refusal → Case
+refuses file = refusesWith file (0 ∷ 0 ∷ [])
+
+-- 1 to 7 before 16 and 8; the vector's length before its bytes, and the first wrong byte; 8 before 9; each slice one
+-- short, both, and more room than needed
 unfoldable pub orders : List Case
 orders =
     refuses [] [] 0 0 (Short 0)
@@ -94,6 +105,7 @@ orders =
     ∷ refuses circuitA (0 ∷ 0 ∷ []) 0 0 (Room 5)
     ∷ record {
       file = circuitA;
+      arrivals = 0 ∷ 0 ∷ [];
       vector = 0 ∷ 0 ∷ [];
       expected =
           record {
@@ -104,19 +116,31 @@ orders =
     }
     ∷ []
 
+-- 16: no arrival, one too few and one too many; the first of two that are over 9,999, and the last; behind 7 and before 8
+-- and 9
+unfoldable pub lateOrders : List Case
+lateOrders =
+    refusesWith circuitA [] (0 ∷ 0 ∷ []) 5 5 (Arrival 2)
+    ∷ refusesWith circuitA (0 ∷ []) (0 ∷ 0 ∷ []) 5 5 (Arrival 2)
+    ∷ refusesWith circuitA (10000 ∷ 0 ∷ 0 ∷ []) (0 ∷ 0 ∷ []) 5 5 (Arrival 2)
+    ∷ refusesWith circuitA (10000 ∷ 10001 ∷ []) (0 ∷ 0 ∷ []) 5 5 (Arrival 0)
+    ∷ refusesWith circuitA (9999 ∷ 10000 ∷ []) (2 ∷ []) 0 0 (Arrival 1)
+    ∷ refusesWith (written 1 [] [] (1 ∷ [])) [] (2 ∷ []) 0 0 (Output 0)
+    ∷ refusesWith circuitA (9999 ∷ 9999 ∷ []) (2 ∷ []) 0 0 (Vector 2) ∷ []
+
 -- all of them
 unfoldable pub edges : List Case
-edges = everyKind ++ orders
+edges = everyKind ++ (orders ++ lateOrders)
 
 -- each is evaluated so
 pub edges-hold :
     map
     (λ (c : Case).
-    evaluation (c .file) (c .vector) (length (c .expected .values)) (length (c .expected .times))) edges
+    evaluation (c .file) (c .arrivals) (c .vector) (length (c .expected .values)) (length (c .expected .times))) edges
     ≡ map (λ (c : Case). c .expected) edges
 unfolding
-    edges everyKind orders written oneGate circuitA netlistRows firstWrong countWrong backWrong pinsBefore gateWrong
+    edges everyKind orders lateOrders written oneGate circuitA netlistRows firstWrong countWrong backWrong pinsBefore gateWrong
     gatePlace sumWrong pinsAt pinWrong pinPlace outputWrong outputPlace kinds kindRow tableBytes shapeOf gateAt pinAt
     pinsFrom cellOf cellAt netlistAt gateValue settles grow valuesOf timesOf circuitTime evaluation givenRows settled
-    byteWrong
+    arrivalRows
 edges-hold = refl

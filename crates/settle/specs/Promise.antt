@@ -1,17 +1,18 @@
--- What `evaluate` answers and leaves in the two lent slices, for every input: 1..8, then 9 for values, then for times.
+-- What `evaluate` answers and leaves in the two lent slices, for every input: 1..7, 16 and
+-- 8, then 9 for values, then for times.
 -- Interface: evaluation, Meets.
 use mathlib.Core.Path.{_≡_}
-use mathlib.Core.Bool.{Bool, not}
+use mathlib.Core.Bool.{Bool}
 use mathlib.Core.List.{List, [], _∷_, _++_, map}
 use Prim.Native.Nat.{ℕ, _-_}
-use lib.Dec.{eqb, ltb}
+use lib.Dec.{eqb}
 use lib.ListN.{length, replicate}
 use Rattle.refusal.specs.declared.Refusal.{Refusal}
 use Rattle.refusal.specs.declared.Refusal.the-variants.{Vector}
 use Rattle.refusal.specs.Rows.{Row, checked, unlessRefused, roomRow}
 use Rattle.netlist.specs.Netlist.{Circuit, nodeCount}
 use Rattle.netlist.specs.Kinds.{bit}
-use Rattle.netlist.specs.Open.{firstWrong, callOver}
+use Rattle.netlist.specs.Open.{listRows, callOver}
 use Rattle.settle.specs.declared.Settled.{Settled}
 use Rattle.settle.specs.declared.Settled.the-variants.{At, Refused}
 use Rattle.settle.specs.Settling.{valuesOf, timesOf, circuitTime}
@@ -46,15 +47,9 @@ settled circuit vector valuesRoom timesRoom =
       times = timesOf circuit (bits vector) ++ replicate (timesRoom - nodeCount (circuit .net)) 0;
     }
 
--- how many bytes of a vector stand before the first that is over 1
-unfoldable pub byteWrong : List ℕ → ℕ
-byteWrong vector = firstWrong (ltb 1) vector
-
--- 8 VECTOR, of a vector of the right length: the position of the first byte that is neither 0 nor 1
+-- 8 VECTOR: another number of bytes than I, or a byte that is neither 0 nor 1
 abbrev pub vectorRows : ℕ → List ℕ → List Row
-vectorRows inputs vector =
-    (not (eqb (length vector) inputs), Vector inputs)
-    ∷ (ltb (byteWrong vector) (length vector), Vector (byteWrong vector)) ∷ []
+vectorRows inputs vector = listRows Vector inputs 1 vector
 
 -- 8, then 9 for values, then for times, of I inputs and N nodes
 unfoldable pub givenRows : ℕ → ℕ → List ℕ → ℕ → ℕ → List Row
@@ -72,8 +67,8 @@ evaluationOf circuit vector valuesRoom timesRoom =
     unlessRefused (checked (evaluationRows circuit vector valuesRoom timesRoom)) (refused valuesRoom timesRoom)
     (settled circuit vector valuesRoom timesRoom)
 
--- of any bytes and any vector, with room for so many values and times
-unfoldable pub evaluation : List ℕ → List ℕ → ℕ → ℕ → Evaluation
-evaluation file vector valuesRoom timesRoom =
-    callOver file (λ circuit. evaluationRows circuit vector valuesRoom timesRoom) (refused valuesRoom timesRoom)
+-- of any bytes, any arrivals and any vector, with room for so many values and times
+unfoldable pub evaluation : List ℕ → List ℕ → List ℕ → ℕ → ℕ → Evaluation
+evaluation file arrivals vector valuesRoom timesRoom =
+    callOver file arrivals (λ circuit. evaluationRows circuit vector valuesRoom timesRoom) (refused valuesRoom timesRoom)
     (λ circuit. settled circuit vector valuesRoom timesRoom)

@@ -5,13 +5,13 @@ use mathlib.Core.Bool.{Bool, false, _||_, Bool·beq, cond}
 use mathlib.Core.List.{List, [], _∷_, _++_, map}
 use Prim.Native.Nat.{ℕ, _+_, _≤_, _<_, max, min}
 use lib.Dec.{eqb}
-use lib.ListN.{length, getD, take, drop, replicate}
+use lib.ListN.{length, getD, take, drop}
 use Rattle.netlist.specs.declared.Kind.{Kind}
 use Rattle.netlist.specs.declared.Shape.{Shape}
 use Rattle.netlist.specs.Netlist.{Pin}
 use Rattle.netlist.specs.Kinds.{bit}
 use Rattle.netlist.specs.File.{driverAt, netlistAt, circuitAt}
-use Rattle.netlist.specs.Holds.{Tables}
+use Rattle.netlist.specs.Holds.{Tables, Arrived}
 use Rattle.settle.specs.declared.Signal.{Signal}
 use Rattle.settle.specs.declared.Scan.{Scan}
 use Rattle.settle.specs.Settling.{gateValue, settles, readyAt, valuesOf, timesOf}
@@ -51,9 +51,9 @@ scanOf values times c [] = record { some = false; first = 0; last = 0 }
 scanOf values times c (p ∷ ps) =
     withPin (scanOf values times c ps) (Bool·beq (pinValue values p) c) (pinReady times p)
 
--- no node settles later: 448 gates in a row, each behind a delay of 999
+-- no node settles later: 448 gates in a row, each behind a delay of 999, after the latest arrival
 abbrev pub latest : ℕ
-latest = 447552
+latest = 457551
 
 -- the pins stand in the file, their drivers in the slices, and no time is so late that a delay more would not fit
 pub record Wired (file : List ℕ) (shape : Shape) (first count : ℕ) (values times : List ℕ) : Type 0 where
@@ -65,27 +65,20 @@ pub record Wired (file : List ℕ) (shape : Shape) (first count : ℕ) (values t
 
 -- ---- the nodes
 
--- the inputs' nodes are done: the vector, and zeros for their times; the rest is as it was
-pub record Entered (vector values₀ times₀ values times : List ℕ) : Type 0 where
-  pub values-are : values ≡ vector ++ drop (length vector) values₀
-  pub times-are : times ≡ replicate (length vector) 0 ++ drop (length vector) times₀
-
 -- the inputs' values and times stand in the slices, which have room for all nodes
 pub record Begun (shape : Shape) (values times : List ℕ) : Type 0 where
   pub inputs : take (shape .inputs) values ≡ map bit (bits (take (shape .inputs) values))
-  pub zeros : take (shape .inputs) times ≡ replicate (shape .inputs) 0
+  pub arrived : Arrived shape (take (shape .inputs) times)
   pub values-room : shape .inputs + shape .gates ≤ length values
   pub times-room : shape .inputs + shape .gates ≤ length times
 
 -- all nodes are done; the rest is as it was
-pub record Done (file : List ℕ) (shape : Shape) (vector : List Bool) (values₀ times₀ values times : List ℕ) :
-    Type 0 where
+pub record Done (file : List ℕ) (shape : Shape) (arrivals : List ℕ) (vector : List Bool)
+    (values₀ times₀ values times : List ℕ) : Type 0 where
   pub values-are :
       values ≡ map bit (valuesOf (netlistAt file shape) vector) ++ drop (shape .inputs + shape .gates) values₀
   pub times-are :
-      times
-      ≡ timesOf (circuitAt file shape) vector
-      ++ drop (shape .inputs + shape .gates) times₀
+      times ≡ timesOf (circuitAt file shape arrivals) vector ++ drop (shape .inputs + shape .gates) times₀
 
 -- the vector has a bit for each input, and the slices have room for all nodes
 pub record Usable (shape : Shape) (vector : List ℕ) (valuesRoom timesRoom : ℕ) : Type 0 where

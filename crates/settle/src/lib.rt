@@ -7,19 +7,20 @@ use refusal::Checked;
 use refusal::Refusal;
 ghost use mathlib.Core.Path.{_≡_};
 ghost use Prim.Native.Nat.{_+_, _-_, _≤_, _<_, max, min};
-ghost use lib.Dec.{T};
+ghost use lib.Dec.{T, ltb};
 ghost use lib.ListN.{length, getD, take};
 ghost use Rattle.netlist.specs.Kinds.{bit};
 ghost use Rattle.netlist.specs.Netlist.{takes};
 ghost use Rattle.netlist.specs.File.{pinAt, netlistAt, circuitAt, pinsFrom};
-ghost use Rattle.netlist.specs.Holds.{Holds};
+ghost use Rattle.netlist.specs.Open.{firstWrong};
+ghost use Rattle.netlist.specs.Holds.{Holds, Given};
 ghost use Rattle.netlist.specs.declared.Kind.the-variants.{Simple, Parity, Mux};
 ghost use Rattle.settle.specs.Settling.{last};
 ghost use Rattle.refusal.specs.Rows.{checked};
-ghost use Rattle.settle.specs.Promise.{Meets, bits, byteWrong, refused, settled};
+ghost use Rattle.settle.specs.Promise.{Meets, bits, refused, settled};
 ghost use Rattle.settle.specs.Promise.{givenRows, evaluationOf, evaluation};
 ghost use Rattle.settle.specs.Steps.{pinSignal, gateSignal, withPin};
-ghost use Rattle.settle.specs.Steps.{Wired, Entered, Begun, Done, Usable};
+ghost use Rattle.settle.specs.Steps.{Wired, Begun, Done, Usable};
 
 // The circuit's settling time, or a refusal.
 pub enum Settled {
@@ -208,26 +209,12 @@ fn stored(value: bool) -> u8
     if value { 1 } else { 0 }
 }
 
-// The inputs' nodes: the vector's values, each settled at 0.
-fn settle_inputs(vector: &[u8], values: &mut [u8], times: &mut [u32])
-    requires { ⌜ (length (now vector) ≤ length (now values)) × (length (now vector) ≤ length (now times)) ⌝ }
-    ensures { λ _. ⌜
-        Entered (now (vector .entry)) (now (values .entry)) (now (times .entry))
-        (now (values .exit)) (now (times .exit)) ⌝ }
-{
-    let mut node = 0;
-    while node < vector.len() {
-        values[node] = vector[node];
-        times[node] = 0;
-        node += 1;
-    }
-}
-
 // The gates' nodes, behind the inputs': each from the nodes before it.
 fn settle_gates(file: &[u8], shape: Shape, values: &mut [u8], times: &mut [u32])
     requires { ⌜ Holds (now file) shape × Begun shape (now values) (now times) ⌝ }
     ensures { λ _. ⌜
-        Done (now (file .entry)) shape (bits (take (shape .inputs) (now (values .entry))))
+        Done (now (file .entry)) shape (take (shape .inputs) (now (times .entry)))
+        (bits (take (shape .inputs) (now (values .entry))))
         (now (values .entry)) (now (times .entry)) (now (values .exit)) (now (times .exit)) ⌝ }
 {
     let inputs = shape.inputs;
@@ -243,14 +230,24 @@ fn settle_gates(file: &[u8], shape: Shape, values: &mut [u8], times: &mut [u32])
     }
 }
 
-// All nodes.
-fn settle_nodes(file: &[u8], shape: Shape, vector: &[u8], values: &mut [u8], times: &mut [u32])
-    requires { ⌜ Holds (now file) shape × Usable shape (now vector) (length (now values)) (length (now times)) ⌝ }
+// All nodes: the inputs', with the vector's values and their arrivals, then the gates'.
+fn settle_nodes(
+    file: &[u8],
+    shape: Shape,
+    arrivals: &[u32],
+    vector: &[u8],
+    values: &mut [u8],
+    times: &mut [u32],
+)
+    requires { ⌜
+        Given (now file) shape (now arrivals)
+        × Usable shape (now vector) (length (now values)) (length (now times)) ⌝ }
     ensures { λ _. ⌜
-        Done (now (file .entry)) shape (bits (now (vector .entry)))
+        Done (now (file .entry)) shape (now (arrivals .entry)) (bits (now (vector .entry)))
         (now (values .entry)) (now (times .entry)) (now (values .exit)) (now (times .exit)) ⌝ }
 {
-    settle_inputs(vector, values, times);
+    lent::copy_u8(vector, values);
+    lent::copy_u32(arrivals, times);
     settle_gates(file, shape, values, times);
 }
 
@@ -275,16 +272,20 @@ fn latest_output(file: &[u8], shape: Shape, times: &[u32]) -> u32
 fn settle_all(
     file: &[u8],
     shape: Shape,
+    arrivals: &[u32],
     vector: &[u8],
     values: &mut [u8],
     times: &mut [u32],
 ) -> Settled
-    requires { ⌜ Holds (now file) shape × Usable shape (now vector) (length (now values)) (length (now times)) ⌝ }
-    ensures { λ r. ⌜ Meets (settled (circuitAt (now (file .entry)) shape) (now (vector .entry))
-        (length (now (values .entry))) (length (now (times .entry)))) r (now (values .exit)) (now (times .exit)) ⌝ }
+    requires { ⌜
+        Given (now file) shape (now arrivals)
+        × Usable shape (now vector) (length (now values)) (length (now times)) ⌝ }
+    ensures { λ r. ⌜ Meets (settled (circuitAt (now (file .entry)) shape (now (arrivals .entry)))
+        (now (vector .entry)) (length (now (values .entry))) (length (now (times .entry)))) r
+        (now (values .exit)) (now (times .exit)) ⌝ }
 {
     let nodes = shape.inputs + shape.gates;
-    settle_nodes(file, shape, vector, values, times);
+    settle_nodes(file, shape, arrivals, vector, values, times);
     let time = latest_output(file, shape, times);
     lent::zero_rest_u8(values, nodes);
     lent::zero_rest_u32(times, nodes);
@@ -293,7 +294,7 @@ fn settle_all(
 
 // How many bytes stand before the first that is over 1; all of them where none is.
 fn first_over_one(vector: &[u8]) -> usize
-    ensures { λ r. ⌜ r ≡ byteWrong (now (vector .entry)) ⌝ }
+    ensures { λ r. ⌜ r ≡ firstWrong (ltb 1) (now (vector .entry)) ⌝ }
 {
     let mut i = 0;
     while i < vector.len() {
@@ -341,37 +342,46 @@ fn refuse(refusal: Refusal, values: &mut [u8], times: &mut [u32]) -> Settled
     Settled::Refused(refusal)
 }
 
-// The evaluation of a file that is accepted with this shape: 8, then 9 for values, then for times, or all values and
-// times. For callers that have opened the file.
+// The evaluation of a file that is accepted with this shape and these arrivals: 8, then 9 for values, then for times, or
+// all values and times. For callers that have opened the file.
 pub fn evaluate_accepted(
     file: &[u8],
     shape: Shape,
+    arrivals: &[u32],
     vector: &[u8],
     values: &mut [u8],
     times: &mut [u32],
 ) -> Settled
-    requires { ⌜ Holds (now file) shape ⌝ }
-    ensures { λ r. ⌜ Meets (evaluationOf (circuitAt (now (file .entry)) shape) (now (vector .entry))
-        (length (now (values .entry))) (length (now (times .entry)))) r (now (values .exit)) (now (times .exit)) ⌝ }
+    requires { ⌜ Given (now file) shape (now arrivals) ⌝ }
+    ensures { λ r. ⌜ Meets (evaluationOf (circuitAt (now (file .entry)) shape (now (arrivals .entry)))
+        (now (vector .entry)) (length (now (values .entry))) (length (now (times .entry)))) r
+        (now (values .exit)) (now (times .exit)) ⌝ }
 {
     let inputs = shape.inputs;
     let nodes = inputs + shape.gates;
     let given = check_given(vector, inputs, nodes, values.len(), times.len());
     match given {
-        Checked::Passes => settle_all(file, shape, vector, values, times),
+        Checked::Passes => settle_all(file, shape, arrivals, vector, values, times),
         Checked::Refused(refusal) => refuse(refusal, values, times),
     }
 }
 
-// All values and times of a circuit under a vector, and its settling time; or the first refusal of 1..8, then 9 for
-// values, then for times, and zeros.
-pub fn evaluate(file: &[u8], vector: &[u8], values: &mut [u8], times: &mut [u32]) -> Settled
-    ensures { λ r. ⌜ Meets (evaluation (now (file .entry)) (now (vector .entry)) (length (now (values .entry)))
-        (length (now (times .entry)))) r (now (values .exit)) (now (times .exit)) ⌝ }
+// All values and times of a circuit under a vector, and its settling time; or the first refusal of 1..7, 16 and 8, then
+// 9 for values, then for times, and zeros.
+pub fn evaluate(
+    file: &[u8],
+    arrivals: &[u32],
+    vector: &[u8],
+    values: &mut [u8],
+    times: &mut [u32],
+) -> Settled
+    ensures { λ r. ⌜ Meets (evaluation (now (file .entry)) (now (arrivals .entry)) (now (vector .entry))
+        (length (now (values .entry))) (length (now (times .entry)))) r
+        (now (values .exit)) (now (times .exit)) ⌝ }
 {
-    let opened = netlist::open(file);
+    let opened = netlist::open_circuit(file, arrivals);
     match opened {
-        Opened::Accepted(shape) => evaluate_accepted(file, shape, vector, values, times),
+        Opened::Accepted(shape) => evaluate_accepted(file, shape, arrivals, vector, values, times),
         Opened::Refused(refusal) => refuse(refusal, values, times),
     }
 }

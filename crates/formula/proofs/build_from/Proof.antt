@@ -1,13 +1,25 @@
--- `formula::build_from` meets its contract: too many pairs is a row of the promise; else `write` ends it. Assumes
--- nothing.
-use lib.ListN.{length}
-use Rattle.netlist.specs.File.{circuitAt}
+-- `formula::build_from` meets its contract: too many pairs is a row of the promise; else `write` ends it. The arrivals
+-- are read off the tops again. Assumes nothing.
 use mathlib.Core.Path.{refl}
-use Rattle.pairs.proofs.Topping.{topped-tops}
-use Rattle.formula.proofs.Rows.{held-length, held-again, meets-as, listed-none}
 use borrow.Author.Needs.{needs}
+use lib.ListN.{length, take}
+use Rattle.pairs.proofs.Topping.{topped-arrivals, topped-given}
+use Rattle.formula.proofs.Rows.{held-length, held-again, meets-as, listed-none}
 use Rattle.formula.proofs.build_from.Statement.{statement}
 use Rattle.formula.proofs.build_from.Tie as tie
+
+-- the places: the start, the tops, the target, the table
+abbrev start : tie.After-tops2 → tie.Start
+start c = c .before .before .before .before .before
+
+abbrev topped : tie.After-table → tie.After-tops2
+topped c = c .before .before .before .before .before
+
+abbrev target : tie.After-table → tie.After-widen
+target c = c .before .before .before
+
+abbrev filled : tie.After-listed → tie.After-table
+filled c = c .before .before .before .before
 
 slice-aggregate-tops : tie.Need-slice-aggregate-tops
 slice-aggregate-tops c = search needs
@@ -23,9 +35,8 @@ slice-aggregate-table c = search needs
 
 table-requires : tie.Need-table-requires
 table-requires c κs =
-    let tops2 = c .before .before .before .before .tops2 in
-    let pre = c .before .before .before .before .before .before .before .before .pre in
-    (pre, topped-tops pre (tops2 .ensures))
+    let tops = c .before .before .before .before in
+    topped-given (start tops .pre) (tops .tops2 .ensures)
 
 enum-known-listed : tie.Need-enum-known-listed
 enum-known-listed c = search needs
@@ -35,13 +46,10 @@ slice-aggregate-write c = search needs
 
 write-requires : tie.Need-write-requires
 write-requires c κs =
-    let listed = c .before .before .before .before .listed in
-    let table = c .before .before .before .before .before .before .before .before .table in
-    let tops2 = c .before .before .before .before .before .before .before .before .before .before .before .before
-    .before .tops2 in
-    let pre = c .before .before .before .before .before .before .before .before .before .before .before .before .before
-    .before .before .before .before .pre in
-    (pre, topped-tops pre (tops2 .ensures), held-again _ _ _ _ _ (table .ensures) (listed .given .1))
+    let found = c .before .before .before .before in
+    let table = filled found in
+    let given = topped-given (start (topped table) .pre) (topped table .tops2 .ensures) in
+    (given .0, given .1, held-again _ _ _ _ _ (table .table .ensures) (found .listed .given .1))
 
 same-length : tie.Need-same-length
 same-length c = search needs
@@ -51,16 +59,12 @@ same-length-2 c = search needs
 
 returns : tie.Need-returns
 returns c =
-    let write = c .before .before .before .write in
-    let listed = c .before .before .before .before .before .before .before .before .listed in
-    let table = c .before .before .before .before .before .before .before .before .before .before .before .before .table
-    in
-    let widen = c .before .before .before .before .before .before .before .before .before .before .before .before
-    .before .before .before .widen in
-    let args = c .before .before .before .before .before .before .before .before .before .before .before .before .before
-    .before .before .before .before .before .before .before .before .args in
-    meets-as (circuitAt (args .file .now) (args .shape)) (length (args .formula .now)) (widen .ensures .0)
-    (held-length _ _ _ _ _ (table .ensures) (listed .given .1)) (write .ensures)
+    let found = c .before .before .before .before .before .before .before .before in
+    let table = filled found in
+    let args = start (topped table) .args in
+    meets-as (args .file .now) (args .shape) (length (args .formula .now))
+    (topped-arrivals (start (topped table) .pre) (topped table .tops2 .ensures)) (target table .widen .ensures .0)
+    (held-length _ _ _ _ _ (table .table .ensures) (found .listed .given .1)) (c .before .before .before .write .ensures)
 
 enum-told : tie.Need-enum-told
 enum-told c = search needs
@@ -76,14 +80,12 @@ same-length-4 c = search needs
 
 returns-2 : tie.Need-returns-2
 returns-2 c =
-    let enum-told = c .before .before .before .enum-told in
-    let table = c .before .before .before .before .before .before .before .table in
-    let widen = c .before .before .before .before .before .before .before .before .before .before .widen in
-    let args = c .before .before .before .before .before .before .before .before .before .before .before .before .before
-    .before .before .before .args in
-    meets-as (circuitAt (args .file .now) (args .shape)) (length (args .formula .now)) (widen .ensures .0) refl
-    (listed-none (args .file .now) (args .shape) (widen .result) _ _ _ _ _ (table .ensures) (enum-told .given .1)
-    (c .before .zero-i32 .ensures))
+    let table = c .before .before .before .before .before .before .before in
+    let args = start (topped table) .args in
+    meets-as (args .file .now) (args .shape) (length (args .formula .now))
+    (topped-arrivals (start (topped table) .pre) (topped table .tops2 .ensures)) (target table .widen .ensures .0) refl
+    (listed-none (args .file .now) (args .shape) _ (target table .widen .result) _ _ _ _ _ (table .table .ensures)
+    (c .before .before .before .enum-told .given .1) (c .before .zero-i32 .ensures))
 
 pub build-from-spec : {M : Type 1} → statement M
 build-from-spec =

@@ -4,8 +4,9 @@ use mathlib.Core.Path.{_≡_, refl, ap}
 use Prim.Native.Nat.{ℕ, _+_, _-_, _*_, _%_, _^_, _≤_, _<_}
 use native.Mathlib.Omega.{arith}
 use borrow.Author.Needs.{needs}
-use lib.ListN.{length, length-set}
+use lib.ListN.{length, length-set, take}
 use lib.Pow.{pow-pos}
+use Rattle.settle.specs.Steps.{latest}
 use Rattle.pairs.proofs.Bits.{one-shifted}
 use Rattle.pairs.proofs.Topping.{tops-long}
 use Rattle.pairs.proofs.Filling.{filling-sorted, filling-top}
@@ -25,7 +26,7 @@ use Rattle.pairs.proofs.fill.Tie as tie
 
 abbrev Inv-loop : tie.InvT-loop
 Inv-loop file shape target tops heads links table₀ marks₀ at₀ f₀ word₀ bits₀ table marks at f word bits =
-    Finding file shape target table₀ table at f marks word bits × (length marks ≡ length marks₀)
+    Finding file shape (take (shape .inputs) tops) target table₀ table at f marks word bits × (length marks ≡ length marks₀)
 
 abbrev μ-loop : tie.MeasureT-loop
 μ-loop file shape target tops heads links table₀ marks₀ at₀ f₀ word₀ bits₀ table marks at f word bits =
@@ -52,14 +53,14 @@ word-within : (c : tie.After-last-word Inv-loop μ-loop) → c .last-word .resul
 word-within c = omega (arith, c .last-word .ensures .within, reads c .loop .inv .0 .scanning .room)
 
 -- the top of the node below
-lower-top : (c : tie.After-widen Inv-loop μ-loop) → c .widen .result ≤ 447552
+lower-top : (c : tie.After-widen Inv-loop μ-loop) → c .widen .result ≤ latest
 lower-top c =
     let turn = ended (lower c) in
     filling-top (start turn .pre .0) _ (turn .loop .inv .0 .filling) (lower c .if3 .left) (start turn .pre .1) _
     (c .widen .ensures .0)
 
 -- the time of the highest bit, and the bit as it is shifted
-time : (c : tie.After-highest Inv-loop μ-loop) → takes c .loop .word * 64 + c .highest .result ≤ 447552
+time : (c : tie.After-highest Inv-loop μ-loop) → takes c .loop .word * 64 + c .highest .result ≤ latest
 time c = finding-time (start (takes c) .pre .0) _ (takes c .loop .inv .0) (c .highest .ensures)
 
 bit-power : (c : tie.After-highest Inv-loop μ-loop) →
@@ -152,7 +153,7 @@ mark-asked-requires c κs =
     let given = start turn .pre in
     let top = lower-top below in (
       filling-sorted (given .0) _ (turn .loop .inv .0 .filling),
-      given .0,
+      given .0 .holds,
       omega (arith, turn .loop .inv .0 .filling .nodes),
       given .5,
       omega arith,
@@ -213,7 +214,7 @@ put-pair-requires : tie.Need-put-pair-requires Inv-loop μ-loop
 put-pair-requires c κs =
     let turn = takes (c .before .before) in
     let filling = turn .loop .inv .0 .filling in
-    let holds = start turn .pre .0 in (
+    let holds = start turn .pre .0 .holds in (
       omega (arith, filling .len, filling .room),
       omega (arith, filling .nodes, holds .counts .inputs-few, holds .counts .gates-few),
       omega (arith, time (c .before .before)),

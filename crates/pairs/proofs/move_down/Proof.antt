@@ -3,7 +3,7 @@ use mathlib.Core.Path.{_≡_, sym}
 use Prim.Native.Nat.{_-_, _≤_}
 use native.Mathlib.Omega.{arith}
 use lib.ListN.{drop}
-use Rattle.settle.proofs.Filling.{Filled, filled-length}
+use Rattle.lent.proofs.Filling.{Filled, filled-length}
 use Rattle.pairs.proofs.Moving.{moving-starts, moving-more}
 use Rattle.pairs.proofs.move_down.Statement.{statement}
 use Rattle.pairs.proofs.move_down.Tie as tie

@@ -30,7 +30,9 @@ lent c = length-take-le _ _ (omega arith)
 -- where the pairs begin, and how many they are
 room : (c : tie.After-known-told) →
     let given = start (sized (filled c)) .args in
-    c .before .got .given .0 .0 + length (pairsAt (given .file .now) (given .shape) (given .target))
+    c .before .got .given .0 .0
+    + length
+    (pairsAt (given .file .now) (given .shape) (take (given .shape .inputs) (given .tops .now)) (given .target))
     ≡ sized (filled c) .holds .result
 room c =
     let whole = sized (filled c) in
@@ -49,7 +51,8 @@ slice-aggregate-link-2 c = search needs
 link-requires : tie.Need-link-requires
 link-requires c κs =
     let given = start (c .before .before) .pre in
-    (given .0, omega (arith, given .0 .counts .inputs-few, given .0 .counts .gates-few), search needs, zeros-at 512)
+    let counts = given .0 .holds .counts in
+    (given .0 .holds, omega (arith, counts .inputs-few, counts .gates-few), search needs, zeros-at 512)
 
 slice-aggregate-fill : tie.Need-slice-aggregate-fill
 slice-aggregate-fill c = search needs
@@ -77,9 +80,9 @@ fill-requires c κs =
       given .0,
       given .1,
       omega (arith, lent whole),
-      no-marks 6995,
+      no-marks 7151,
       search needs,
-      omega (arith, given .0 .counts .inputs-few, given .0 .counts .gates-few),
+      omega (arith, given .0 .holds .counts .inputs-few, given .0 .holds .counts .gates-few),
       linked .link .ensures,
     )
 

@@ -1,48 +1,40 @@
 -- `pairs::tops` meets its contract: the nodes before gate i have their tops, and what is after all nodes is zeroed.
 -- Assumes nothing.
-use mathlib.Core.Path.{_≡_, refl, sym, _∙_}
+use mathlib.Core.Path.{_≡_, refl, sym}
 use Prim.Native.Nat.{_-_, _≤_}
 use native.Mathlib.Omega.{arith}
 use lib.ListN.{length, length-set}
-use lib.Seq.{length-take-le, length-front}
+use lib.Seq.{length-take-le}
 use Rattle.pairs.proofs.Topping.{Topping, topping-starts, topping-small, topping-more, topping-ends}
 use Rattle.pairs.proofs.tops.Statement.{statement}
 use Rattle.pairs.proofs.tops.Tie as tie
 
 abbrev Inv-loop : tie.InvT-loop
-Inv-loop file shape tops₀ nodes i₀ tops i =
-    (i ≤ shape .gates) × (length tops ≡ length tops₀) × Topping file shape tops i
+Inv-loop file shape arrivals tops₀ nodes i₀ tops i =
+    (i ≤ shape .gates) × (length tops ≡ length tops₀) × Topping file shape arrivals tops i
 
 abbrev μ-loop : tie.MeasureT-loop
-μ-loop file shape tops₀ nodes i₀ tops i = shape .gates - i
+μ-loop file shape arrivals tops₀ nodes i₀ tops i = shape .gates - i
 
 -- the start, and that the slice keeps its length
 abbrev start : tie.At-loop Inv-loop μ-loop → tie.Start Inv-loop μ-loop
-start c = c .before .before .before .before .before .before .before .before
+start c = c .before .before .before .before .before .before .before .before .before
 
 long : (c : tie.At-loop Inv-loop μ-loop) → length (c .loop .tops) ≡ length (start c .args .tops .now)
-long c =
-    let zeroed = c .before .before .before .before .zero-u32 in
-    c .loop .inv .1
-    ∙ length-front (start c .args .tops .now) (zeroed .last .0) (start c .args .shape .inputs)
-    (omega (arith, zeroed .kept))
+long c = omega (arith, c .loop .inv .1, c .before .before .before .before .copy-u32 .kept)
 
-slice-relend-prefix-zero-u32 : tie.Need-slice-relend-prefix-zero-u32 Inv-loop μ-loop
-slice-relend-prefix-zero-u32 c = omega (arith, c .before .before .pre .1)
-
-slice-aggregate-zero-u32 : tie.Need-slice-aggregate-zero-u32 Inv-loop μ-loop
-slice-aggregate-zero-u32 c = sym (length-take-le _ _ (omega (arith, c .before .before .before .pre .1)))
-
-zero-u32-requires : tie.Need-zero-u32-requires Inv-loop μ-loop
-zero-u32-requires c κs = tt
+copy-u32-requires : tie.Need-copy-u32-requires Inv-loop μ-loop
+copy-u32-requires c κs =
+    let given = c .before .before .before .before .pre in
+    omega (arith, given .0 .arrived .long, given .1)
 
 add-nodes : tie.Need-add-nodes Inv-loop μ-loop
 add-nodes c = omega arith
 
 loop-holds : tie.Need-loop-holds Inv-loop μ-loop
 loop-holds c =
-    let given = c .before .before .before .before .before .before .before .pre in
-    (omega arith, refl, topping-starts (given .0) _ _ (given .1) (c .before .before .before .zero-u32 .ensures))
+    let given = c .before .before .before .before .before .before .before .before .pre in
+    (omega arith, refl, topping-starts (given .0) (given .1) (c .before .before .before .copy-u32 .ensures))
 
 add-node : tie.Need-add-node Inv-loop μ-loop
 add-node c = omega arith
@@ -57,7 +49,7 @@ slice-aggregate-last-ready c =
 last-ready-requires : tie.Need-last-ready-requires Inv-loop μ-loop
 last-ready-requires c κs =
     let turn = c .before .before .before .before in
-    (start turn .pre .0, c .before .before .if1 .taken, length-take-le _ _ (omega (arith, turn .loop .inv .2 .long)))
+    (start turn .pre .0 .holds, c .before .before .if1 .taken, length-take-le _ _ (omega (arith, turn .loop .inv .2 .long)))
 
 cast-tops : tie.Need-cast-tops Inv-loop μ-loop
 cast-tops c =
@@ -108,9 +100,7 @@ tops-spec =
     (tie.spec
     Inv-loop
     μ-loop
-    slice-relend-prefix-zero-u32
-    slice-aggregate-zero-u32
-    zero-u32-requires
+    copy-u32-requires
     add-nodes
     loop-holds
     add-node

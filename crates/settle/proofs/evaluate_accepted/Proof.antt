@@ -19,7 +19,7 @@ settle-all-requires : tie.Need-settle-all-requires
 settle-all-requires c κs =
     let told = c .before .before in
     let check = told .before .before in
-    let s = check .before .before .before .before .before .before in (
+    let s = check .before .before .before .before .before .before .before in (
       s .pre,
       L.usable (s .args .shape) (s .args .vector .now) (length (s .args .values .now)) (length (s .args .times .now))
           (check .check-given .ensures) (told .enum-told .given .1),
@@ -42,10 +42,10 @@ returns c =
     let settle = c .before .before .before .before in
     let told = settle .before .before .before in
     let check = told .before .before in
-    let s = check .before .before .before .before .before .before in
+    let s = check .before .before .before .before .before .before .before in
     rw (
-      L.by-checks (s .args .file .now) (s .args .shape) (s .args .vector .now) (length (s .args .values .now))
-          (length (s .args .times .now)) (check .check-given .ensures),
+      L.by-checks (s .args .file .now) (s .args .shape) (s .args .arrivals .now) (s .args .vector .now)
+          (length (s .args .values .now)) (length (s .args .times .now)) (check .check-given .ensures),
       told .enum-told .given .1,
     )
     (settle .settle-all .ensures)
@@ -61,10 +61,10 @@ returns-2 c =
     let refuse = c .before .before .before .before in
     let known = refuse .before .before .before .before in
     let check = known .before .before in
-    let s = check .before .before .before .before .before .before in
+    let s = check .before .before .before .before .before .before .before in
     rw (
-      L.by-checks (s .args .file .now) (s .args .shape) (s .args .vector .now) (length (s .args .values .now))
-          (length (s .args .times .now)) (check .check-given .ensures),
+      L.by-checks (s .args .file .now) (s .args .shape) (s .args .arrivals .now) (s .args .vector .now)
+          (length (s .args .values .now)) (length (s .args .times .now)) (check .check-given .ensures),
       known .given .given .1,
     )
     (refuse .refuse .ensures)

@@ -30,7 +30,7 @@ returns : tie.Need-returns
 returns c =
     let afterZeros = c .before .before .before .before .before .before in
     let afterNodes = afterZeros .before .before .before .before .before .before .before .before in
-    let s = afterNodes .before .before .before .before .before .before .before .before in
+    let s = afterNodes .before .before .before .before .before .before .before .before .before in
     L.settled-is (s .pre .0) (s .pre .1) (afterNodes .settle-nodes .ensures) _ _ _
     (afterZeros .before .before .latest-output .ensures)
     (afterZeros .zero-rest-u8 .ensures)

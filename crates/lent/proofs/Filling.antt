@@ -1,12 +1,13 @@
 -- A slice that is filled from its start with the entries of a list: before place n it is done, from n on it is as it
--- was. Assumes nothing.
+-- was; and what a list at the front of a slice leaves of it. Assumes nothing.
 use mathlib.Core.Path.{_≡_, sym, ap, _∙_}
 use mathlib.Core.List.{List, [], _∷_, _++_, append-assoc}
-use Prim.Native.Nat.{ℕ, suc, _+_, _≤_, _<_}
+use Prim.Native.Nat.{ℕ, suc, _+_, _-_, _≤_, _<_}
 use native.Mathlib.Omega.{arith}
 use native.Mathlib.Numerals.{add-one}
 use lib.ListN.{length, getD, take, drop, set, length-append, length-drop, take-append-drop}
-use lib.Seq.{take-at, set-at, drop-cons, take-suc, length-take-le, take-all}
+use lib.Seq.{take-at, set-at, drop-cons, take-suc, length-take-le, take-all, drop-append-add, drop-drop}
+use Rattle.lent.specs.Copied.{Copied}
 
 -- the first n entries of `whole` stand where `before` was
 pub record Filled {A : Type 0} (whole before now : List A) (n : ℕ) : Type 0 where
@@ -54,3 +55,32 @@ module _ {A : Type 0} {whole : List A} where
     -- all entries
     pub filled-ends : length whole ≤ n → now ≡ whole ++ drop n before
     filled-ends h = b .is ∙ ap (λ (t : List A). t ++ drop n before) (take-all n whole h)
+
+    -- they stand at the front
+    pub filled-whole : length whole ≤ n → Copied whole before now
+    filled-whole h =
+        let e : n ≡ length whole = omega (arith, b .upto) in
+        record { is = filled-ends h ∙ ap (λ (k : ℕ). whole ++ drop k before) e }
+
+-- ---- a list at the front of a slice
+
+module _ {A : Type 0} {whole before now : List A} (c : Copied whole before now) (n : ℕ) (long : length whole ≡ n) where
+  -- the front is the list
+  pub copied-front : take n now ≡ whole
+  copied-front = ap (take n) (c .is) ∙ take-at whole (drop (length whole) before) n long
+
+  -- behind it all is as it was
+  pub copied-behind : (k : ℕ) → n ≤ k → drop k now ≡ drop k before
+  copied-behind k h =
+      let f : length whole + (k - length whole) ≡ k = omega arith in
+      ap (λ (j : ℕ). drop j now) (sym f)
+      ∙ ap (drop (length whole + (k - length whole))) (c .is)
+      ∙ drop-append-add whole (drop (length whole) before) (k - length whole)
+      ∙ drop-drop (k - length whole) (length whole) before
+      ∙ ap (λ (j : ℕ). drop j before) f
+
+  -- and the length, of a slice that had room
+  pub copied-length : n ≤ length before → length now ≡ length before
+  copied-length h =
+      ap length (c .is)
+      ∙ omega (arith, length-append whole (drop (length whole) before), length-drop (length whole) before)
