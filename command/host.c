@@ -12,7 +12,7 @@
  *
  * Beside the library's four functions there are six for a search: a refutation without the steps that it does not need,
  * of a formula or of a netlist's formula for a target; a walk over all vectors, the times of some, a vector with fewer
- * ones; and a formula written to a file as DIMACS CNF.
+ * ones; and a formula written to a file as DIMACS CNF. Where one takes a netlist, its arrivals come right behind it.
  *
  * One process answers any number of requests and ends with its input: 0 there, 2 where a request does not read, 3 where
  * the answer cannot be written, 4 where memory is short. Assumes a little endian machine.
@@ -118,9 +118,9 @@ static void field(uint64_t value)
 
 static void evaluate(void)
 {
-    take_arguments(4);
+    take_arguments(5);
     buzzlumen_evaluated answer =
-        buzzlumen_evaluate(SOME_BYTES(0), SOME_BYTES(1), SOME_BYTES(2), SOME_WORDS(3));
+        buzzlumen_evaluate(SOME_BYTES(0), SOME_WORDS(1), SOME_BYTES(2), SOME_BYTES(3), SOME_WORDS(4));
     field(answer.number);
     field(answer.place);
     field(answer.time);
@@ -128,11 +128,11 @@ static void evaluate(void)
 
 static void build(void)
 {
-    take_arguments(4);
+    take_arguments(5);
     buzzlumen_built answer =
-        buzzlumen_build(SOME_BYTES(0), A_NUMBER(1), SOME_WORDS(2), SOME_SIGNED(3));
-    arguments[2].length = 2 * answer.pairs;
-    arguments[3].length = answer.numbers;
+        buzzlumen_build(SOME_BYTES(0), SOME_WORDS(1), A_NUMBER(2), SOME_WORDS(3), SOME_SIGNED(4));
+    arguments[3].length = 2 * answer.pairs;
+    arguments[4].length = answer.numbers;
     field(answer.number);
     field(answer.place);
     field(answer.variables);
@@ -152,10 +152,10 @@ static void check(void)
 
 static void judge(void)
 {
-    take_arguments(9);
+    take_arguments(10);
     buzzlumen_judged answer =
-        buzzlumen_judge(SOME_BYTES(0), A_NUMBER(1), SOME_BYTES(2), SOME_SIGNED(3),
-                        SOME_BYTES(4), SOME_WORDS(5), SOME_WORDS(6), SOME_SIGNED(7), SOME_BYTES(8));
+        buzzlumen_judge(SOME_BYTES(0), SOME_WORDS(1), A_NUMBER(2), SOME_BYTES(3), SOME_SIGNED(4),
+                        SOME_BYTES(5), SOME_WORDS(6), SOME_WORDS(7), SOME_SIGNED(8), SOME_BYTES(9));
     field(answer.number);
     field(answer.place);
 }
@@ -170,21 +170,22 @@ static void leave_out_steps(void)
 /* The same for a refutation of a netlist's formula for a target, which is built in the room for work. */
 static void leave_out_steps_for(void)
 {
-    take_arguments(6);
+    take_arguments(7);
     buzzlumen_built answer =
-        buzzlumen_build(SOME_BYTES(0), A_NUMBER(1), SOME_WORDS(3), SOME_SIGNED(4));
-    arguments[5].length = answer.number != 0 ? 0 : shorten(answer.variables, arguments[4].start, answer.numbers,
-                                                           SOME_SIGNED(2), arguments[5].start);
+        buzzlumen_build(SOME_BYTES(0), SOME_WORDS(1), A_NUMBER(2), SOME_WORDS(4), SOME_SIGNED(5));
+    arguments[6].length = answer.number != 0 ? 0 : shorten(answer.variables, arguments[5].start, answer.numbers,
+                                                           SOME_SIGNED(3), arguments[6].start);
     field(answer.number);
     field(answer.place);
 }
 
-/* How the netlist of a request settles under a vector; the nodes' values and times are left aside. */
+/* How the netlist of a request settles, with its arrivals, under a vector; the nodes' values and times are left
+ * aside. */
 static buzzlumen_evaluated settle(const uint8_t *vector, size_t inputs)
 {
     static uint8_t values[MOST_NODES];
     static uint32_t times[MOST_NODES];
-    return buzzlumen_evaluate(SOME_BYTES(0), vector, inputs, values, MOST_NODES, times, MOST_NODES);
+    return buzzlumen_evaluate(SOME_BYTES(0), SOME_WORDS(1), vector, inputs, values, MOST_NODES, times, MOST_NODES);
 }
 
 /* Of all vectors of so many inputs, input 0 most significant and 0 before 1, the first that settles
@@ -193,8 +194,8 @@ static void walk(void)
 {
     static uint8_t vector[MOST_INPUTS];
     buzzlumen_evaluated answer = {0, 0, 0}, best = {0, 0, 0};
-    take_arguments(4);
-    size_t inputs = arguments[3].length;
+    take_arguments(5);
+    size_t inputs = arguments[4].length;
     if (inputs > MOST_INPUTS - 1)
         exit(REQUEST_DOES_NOT_READ);
     for (uint64_t each = 0; each >> inputs == 0 && answer.number == 0; each++) {
@@ -203,9 +204,9 @@ static void walk(void)
         answer = settle(vector, inputs);
         if (each == 0 || answer.time > best.time) {
             best = answer;
-            memcpy(arguments[3].start, vector, inputs);
+            memcpy(arguments[4].start, vector, inputs);
         }
-        if (best.time >= A_NUMBER(1) && A_NUMBER(2))
+        if (best.time >= A_NUMBER(2) && A_NUMBER(3))
             break;
     }
     field(answer.number);
@@ -217,13 +218,13 @@ static void walk(void)
 static void times_of(void)
 {
     buzzlumen_evaluated answer = {0, 0, 0};
-    take_arguments(4);
-    size_t inputs = A_NUMBER(2), count = arguments[3].length;
-    if (arguments[1].length != inputs * count)
+    take_arguments(5);
+    size_t inputs = A_NUMBER(3), count = arguments[4].length;
+    if (arguments[2].length != inputs * count)
         exit(REQUEST_DOES_NOT_READ);
     for (size_t i = 0; i < count && answer.number == 0; i++) {
-        answer = settle((uint8_t *)arguments[1].start + i * inputs, inputs);
-        ((uint32_t *)arguments[3].start)[i] = answer.time;
+        answer = settle((uint8_t *)arguments[2].start + i * inputs, inputs);
+        ((uint32_t *)arguments[4].start)[i] = answer.time;
     }
     field(answer.number);
     field(answer.place);
@@ -232,16 +233,16 @@ static void times_of(void)
 /* A vector that settles at a time, with a 0 for each of its ones that can go, in order, while it still does. */
 static void fewer_ones(void)
 {
-    take_arguments(4);
-    uint8_t *vector = arguments[3].start;
-    size_t inputs = arguments[3].length;
-    if (arguments[2].length != inputs)
+    take_arguments(5);
+    uint8_t *vector = arguments[4].start;
+    size_t inputs = arguments[4].length;
+    if (arguments[3].length != inputs)
         exit(REQUEST_DOES_NOT_READ);
-    memcpy(vector, arguments[2].start, inputs);
+    memcpy(vector, arguments[3].start, inputs);
     for (size_t i = 0; i < inputs; i++) {
         if (vector[i] != 0) {
             vector[i] = 0;
-            vector[i] = settle(vector, inputs).time != A_NUMBER(1);
+            vector[i] = settle(vector, inputs).time != A_NUMBER(2);
         }
     }
 }
@@ -286,15 +287,15 @@ static int write_clauses(FILE *file, const int32_t *numbers, size_t length)
  * field is 0 where the file took it all. */
 static void write_formula(void)
 {
-    take_arguments(5);
+    take_arguments(6);
     buzzlumen_built answer =
-        buzzlumen_build(SOME_BYTES(0), A_NUMBER(1), SOME_WORDS(3), SOME_SIGNED(4));
+        buzzlumen_build(SOME_BYTES(0), SOME_WORDS(1), A_NUMBER(2), SOME_WORDS(4), SOME_SIGNED(5));
     int wrong = 0;
     if (answer.number == 0) {
-        FILE *file = fopen(arguments[2].start, "w");
+        FILE *file = fopen(arguments[3].start, "w");
         wrong = file == NULL ||
                 fprintf(file, "p cnf %u %llu\n", answer.variables, (unsigned long long)answer.clauses) < 0 ||
-                write_clauses(file, arguments[4].start, answer.numbers) != 0;
+                write_clauses(file, arguments[5].start, answer.numbers) != 0;
         wrong |= file != NULL && fclose(file) != 0;
     }
     field(answer.number);

@@ -146,6 +146,11 @@ def given_words(values):
     return struct.pack("<IQ", WORDS, len(values)) + little(array.array("i", values)).tobytes()
 
 
+def given_times(values):
+    """An argument: 32-bit numbers without a sign, to read."""
+    return struct.pack("<IQ", WORDS, len(values)) + little(array.array("I", values)).tobytes()
+
+
 def lent_bytes(length):
     """An argument: room for so many bytes."""
     return struct.pack("<IQ", LENT_BYTES, length)
@@ -258,25 +263,28 @@ class Library:
 
     # The four functions of the library.
 
-    def evaluate(self, netlist, vector):
+    def evaluate(self, netlist, arrivals, vector):
         """Values and settling times under a vector."""
-        arguments = [given_bytes(netlist), given_bytes(vector), lent_bytes(MOST_NODES), lent_words(MOST_NODES)]
+        arguments = [given_bytes(netlist), given_times(arrivals), given_bytes(vector), lent_bytes(MOST_NODES),
+                     lent_words(MOST_NODES)]
         (refusal, place, time), (values, times) = self.call(EVALUATE, arguments, "BI")
         accept(refusal, place)
         return Settled(time, values, times)
 
-    def refusal_of(self, netlist):
-        """The refusal of bytes that are no netlist, or None: a vector without a value is refused after all of those."""
+    def refusal_of(self, netlist, arrivals):
+        """The refusal of bytes that are no netlist, or of numbers that are no arrivals for it, or None: a vector
+        without a value is refused after all of those."""
         try:
-            self.evaluate(netlist, b"")
+            self.evaluate(netlist, arrivals, b"")
         except Refusal as refusal:
             return refusal if refusal.number != VECTOR else None
         return None
 
-    def build(self, netlist, target):
+    def build(self, netlist, arrivals, target):
         """The formula for a target."""
         (variables, clauses, _, _), (pairs, formula) = self.with_room(lambda room: self.call(
-            BUILD, [given_bytes(netlist), number(target), lent_words(MOST_PAIR_NUMBERS), lent_words(room)], "Ii"))
+            BUILD, [given_bytes(netlist), given_times(arrivals), number(target), lent_words(MOST_PAIR_NUMBERS),
+                    lent_words(room)], "Ii"))
         return Built(variables, clauses, formula, pairs)
 
     def check(self, variables, formula, refutation):
@@ -286,20 +294,21 @@ class Library:
         (refusal, place), _ = self.call(CHECK, arguments, "")
         accept(refusal, place)
 
-    def judge(self, netlist, delay, vector, refutation):
+    def judge(self, netlist, arrivals, delay, vector, refutation):
         """Whether a delay, a vector and a refutation are a certificate."""
         self.with_room(lambda room: self.call(
-            JUDGE, [given_bytes(netlist), number(delay), given_bytes(vector), given_words(refutation),
-                    work_bytes(MOST_NODES), work_words(MOST_NODES), work_words(MOST_PAIR_NUMBERS), work_words(room),
-                    work_bytes(MOST_VARIABLES + 1)], ""))
+            JUDGE, [given_bytes(netlist), given_times(arrivals), number(delay), given_bytes(vector),
+                    given_words(refutation), work_bytes(MOST_NODES), work_words(MOST_NODES),
+                    work_words(MOST_PAIR_NUMBERS), work_words(room), work_bytes(MOST_VARIABLES + 1)], ""))
 
     # What the program has beside the library's functions, for a search.
 
-    def write_formula(self, netlist, target, path):
+    def write_formula(self, netlist, arrivals, target, path):
         """The formula for a target, to a file as DIMACS CNF."""
         (wrong,), _ = self.with_room(lambda room: self.call(
-            WRITE_FORMULA, [given_bytes(netlist), number(target), given_bytes(os.fsencode(path) + b"\0"),
-                            work_words(MOST_PAIR_NUMBERS), work_words(room)], ""))
+            WRITE_FORMULA, [given_bytes(netlist), given_times(arrivals), number(target),
+                            given_bytes(os.fsencode(path) + b"\0"), work_words(MOST_PAIR_NUMBERS), work_words(room)],
+            ""))
         if wrong:
             raise OfTheMachine(f"the formula for T={target} cannot be written to {path}: is the disk full?")
 
@@ -309,30 +318,32 @@ class Library:
         _, (shorter,) = self.call(SHORTEN, arguments, "i")
         return shorter or refutation
 
-    def shorten_for(self, netlist, target, refutation):
+    def shorten_for(self, netlist, arrivals, target, refutation):
         """The same for a refutation of a netlist's formula for a target."""
         _, (shorter,) = self.with_room(lambda room: self.call(
-            SHORTEN_FOR, [given_bytes(netlist), number(target), given_words(refutation),
+            SHORTEN_FOR, [given_bytes(netlist), given_times(arrivals), number(target), given_words(refutation),
                           work_words(MOST_PAIR_NUMBERS), work_words(room), lent_words(len(refutation))], "i"))
         return shorter or refutation
 
-    def times_of(self, netlist, vectors):
+    def times_of(self, netlist, arrivals, vectors):
         """The settling times of some vectors."""
-        arguments = [given_bytes(netlist), given_bytes(b"".join(vectors)), number(len(vectors[0])),
-                     lent_words(len(vectors))]
+        arguments = [given_bytes(netlist), given_times(arrivals), given_bytes(b"".join(vectors)),
+                     number(len(vectors[0])), lent_words(len(vectors))]
         (refusal, place), (times,) = self.call(TIMES_OF, arguments, "I")
         accept(refusal, place)
         return times
 
-    def fewer_ones(self, netlist, time, vector):
+    def fewer_ones(self, netlist, arrivals, time, vector):
         """A vector that settles at a time, with a 0 for as many of its ones as go one after the other."""
-        arguments = [given_bytes(netlist), number(time), given_bytes(vector), lent_bytes(len(vector))]
+        arguments = [given_bytes(netlist), given_times(arrivals), number(time), given_bytes(vector),
+                     lent_bytes(len(vector))]
         _, (smaller,) = self.call(FEWER_ONES, arguments, "B")
         return bytes(smaller)
 
-    def walk(self, netlist, inputs, enough=None):
+    def walk(self, netlist, arrivals, enough=None):
         """Of all vectors in order, 0 before 1, the first that settles latest, or at `enough` or later: time, vector."""
-        arguments = [given_bytes(netlist), number(enough or 0), number(enough is not None), lent_bytes(inputs)]
+        arguments = [given_bytes(netlist), given_times(arrivals), number(enough or 0), number(enough is not None),
+                     lent_bytes(len(arrivals))]
         (refusal, place, time), (vector,) = self.call(WALK, arguments, "B")
         accept(refusal, place)
         return time, bytes(vector)

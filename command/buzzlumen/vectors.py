@@ -26,19 +26,25 @@ def named_value(part, most):
     return name, number_in(digits, most) if is_name(name) else None
 
 
-def by_name(parts, circuit):
-    """The values of a vector that names the inputs, in the inputs' order."""
-    value_of = {}
-    inputs = circuit.names[:circuit.netlist.inputs]
+def named_values(parts, circuit, most, what, example):
+    """The number of each input that some parts name: its value, or what else they say of it."""
+    inputs, number_of = circuit.names[:circuit.netlist.inputs], {}
     for part in parts:
-        name, value = named_value(part, MOST_BYTE)
-        if value is None:
-            raise Slip(f"{shown(part)} is no input and its value, as a=0")
+        name, number = named_value(part, most)
+        if number is None:
+            raise Slip(f"{shown(part)} is no input and its {what}, as {example}")
         if name not in inputs:
             raise Slip(f"{shown(name)} is no input; the inputs are {' '.join(inputs)}")
-        if name in value_of:
-            raise Slip(f"{name} has a value twice")
-        value_of[name] = value
+        if name in number_of:
+            raise Slip(f"{name} has its {what} twice")
+        number_of[name] = number
+    return number_of
+
+
+def by_name(parts, circuit):
+    """The values of a vector that names the inputs, in the inputs' order."""
+    value_of = named_values(parts, circuit, MOST_BYTE, "value", "a=0")
+    inputs = circuit.names[:circuit.netlist.inputs]
     missing = [name for name in inputs if name not in value_of]
     if missing:
         raise Slip(f"no value for {' '.join(missing)}")
