@@ -17,11 +17,13 @@ from document import write_netlist
 COMMANDS = ("times", "formula", "check", "judge", "delay", "explain-refusal", "netlist", "from-yosys", "man", "", "--")
 WORDS = ("a.txt", "b.txt", "3", "0,1", "a=0", "-o", "--output", "-f", "--force", "--names", "--delay", "--vector",
          "--refutation", "--solver", "--seconds", "--figures", "--text", "--bytes", "--delays", "--top", "cadical", "-",
+         "--arrivals", "b=25", "--arrivals=0,25",
          "--", "-1", "-x", "", "--out", "--output=made", "-omade", "-fo", "two words", "-two words", "-h", "--version")
 LINES, MOST_WORDS = 6000, 7
 
 PLAIN = ("delay a.txt", "delay a.txt b.txt --figures", "delay a.txt --solver cadical --seconds 5 -o made -f",
          "times a.txt", "times a.txt 0,1", "formula a.txt 3 --names", "check a.cnf b.txt", "judge a.txt made",
+         "delay a.txt --arrivals b=25", "times a.txt 0,1 --arrivals 0,25", "judge a.txt made --arrivals b=25",
          "explain-refusal refused 15 1", "from-yosys a.json --delays d.txt", "man")
 
 # Parts of Python's library that take a millisecond or more to load, each with what it loads.
@@ -64,10 +66,13 @@ class Loading(Asking):
     """What Python loads."""
 
     def test_delay_loads_little(self):
-        """Neither a text nor a netlist file needs a slow part of Python's library to have its delay found."""
+        """Neither a text nor a netlist file needs a slow part of Python's library to have its delay found, late inputs
+        or none."""
         large = self.file("large.netlist", write_netlist(methods.random_netlist(methods.Dice(1, 3), 12, 60)))
-        for path in (COURSE / "circuit_c.txt", large):
-            words = [sys.executable, "-IS", "-X", "importtime", ROOT / "buzzlumen", "delay", path, "--figures"]
+        for path, late in ((COURSE / "circuit_c.txt", []), (large, []), (COURSE / "circuit_c.txt", ["b=25"]),
+                           (large, ["n0=25"])):
+            words = [sys.executable, "-IS", "-X", "importtime", ROOT / "buzzlumen", "delay", path, "--figures",
+                     *["--arrivals"] * len(late), *late]
             ended = subprocess.run(words, capture_output=True, text=True, check=True, timeout=60)
             loaded = set(re.findall(r"^import time:.*\| +(\S+)$", ended.stderr, flags=re.M))
             self.assertIn("buzzlumen.search", loaded)
