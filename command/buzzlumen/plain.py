@@ -1,8 +1,9 @@
 """Reads the command's words where they are plain, without argparse, whose loading takes longer than most answers.
 
 Plain is the name of a subcommand and behind it, all written out: its options, each with its value behind it where it
-takes one, and its other words in one row. What is not plain is left to argparse (tree.py), which reads more ways of
-writing, prints help and says what is wrong. What is plain argparse would read in the same way.
+takes one, and its other words, in any place. What is not plain is left to argparse (tree.py), which reads more ways of
+writing, prints help and says what is wrong. What is plain argparse would read in the same way; of words with options
+between them, as `times a.txt --arrivals b=3 0,1`, that is so once the words stand together.
 """
 
 from .arguments import COMMANDS
@@ -42,15 +43,12 @@ class Arguments:
 
     def read(self, words):
         """The value of each argument by its name; None where the words are not plain."""
-        values, row, row_has_ended = dict(self.defaults), [], False
+        values, row = dict(self.defaults), []
         words = iter(words)
         for word in words:
             if not word.startswith("-"):
-                if row_has_ended:
-                    return None
                 row.append(word)
                 continue
-            row_has_ended = bool(row)
             if word in self.flags:
                 values[self.flags[word]] = True
                 continue

@@ -111,6 +111,13 @@ class Asked(Asking):
         self.ask("delay", A, "--arrivals", status=2)
         self.ask("delay", A, "--arrivals", "-3", status=2)
 
+    def test_between_words(self):
+        """The option may stand anywhere behind the question."""
+        made = self.folder / "made"
+        self.assertEqual(self.ask("delay", "--arrivals", "b=25", A, "-o", made).out, "delay 27\n")
+        self.assertEqual(self.ask("times", A, "--arrivals", "b=25", "1,0").out.split()[:2], ["settled", "27"])
+        self.assertEqual(self.ask("judge", A, "--arrivals", "b=25", made).out, "accepted\n")
+
     def test_over_the_text(self):
         """Names leave the others as the text has them; a list sets all."""
         path = self.file("a.txt", A.read_text().replace("input a b", "input a:7 b:25"))

@@ -9,6 +9,7 @@ import unittest
 
 import methods
 from asking import COURSE, ROOT, Asking
+from buzzlumen.manual import subcommands
 from buzzlumen.plain import read_plain
 from buzzlumen.tree import parser
 from document import write_netlist
@@ -24,6 +25,7 @@ LINES, MOST_WORDS = 6000, 7
 PLAIN = ("delay a.txt", "delay a.txt b.txt --figures", "delay a.txt --solver cadical --seconds 5 -o made -f",
          "times a.txt", "times a.txt 0,1", "formula a.txt 3 --names", "check a.cnf b.txt", "judge a.txt made",
          "delay a.txt --arrivals b=25", "times a.txt 0,1 --arrivals 0,25", "judge a.txt made --arrivals b=25",
+         "times a.txt --arrivals 0,25 0,1", "judge a.txt --arrivals b=25 made", "delay a.txt -o made b.txt",
          "explain-refusal refused 15 1", "from-yosys a.json --delays d.txt", "man")
 
 # Parts of Python's library that take a millisecond or more to load, each with what it loads.
@@ -32,11 +34,17 @@ SLOW = {"argparse", "ast", "contextlib", "dataclasses", "enum", "functools", "ge
 
 
 def by_argparse(words):
-    """What argparse reads out of some words; None where it prints help or finds a slip."""
+    """What argparse reads out of some words; where it finds a slip, what it reads where options may stand between the
+    words; None where that is a slip too, or help."""
     with contextlib.redirect_stdout(io.StringIO()), contextlib.redirect_stderr(io.StringIO()):
         try:
             return vars(parser().parse_args(words))
         except SystemExit:
+            pass
+        try:
+            below = {name: each for name, each, _ in subcommands(parser())}
+            return {"command": words[0], **vars(below[words[0]].parse_intermixed_args(words[1:]))}
+        except (SystemExit, KeyError):
             return None
 
 
@@ -58,7 +66,7 @@ class Words(unittest.TestCase):
         """What is asked every day is read without argparse; help is not, nor is a slip."""
         for line in PLAIN:
             self.assertIsNotNone(read_plain(line.split()), line)
-        for line in ("", "-h", "delay", "delay -h", "delay a.txt --solver", "delay a.txt -o made b.txt", "nothing"):
+        for line in ("", "-h", "delay", "delay -h", "delay a.txt --solver", "formula a.txt -f", "nothing"):
             self.assertIsNone(read_plain(line.split()), line)
 
 
