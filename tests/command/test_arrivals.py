@@ -231,6 +231,15 @@ class Found(Asking):
             path = self.file("some.netlist", write_netlist(drawn))
             self.assertIn(f": {words} settles at", self.ask("delay", path, "--arrivals", ",".join(map(str, late))).err)
 
+    def test_fewer_ones(self):
+        """Of many inputs the vector has a 1 only where the delay needs it."""
+        names = [f"i{place}" for place in range(14)]
+        path = self.file("wide.txt", f"input {' '.join(names)}:25\ng = AND(i0:1, i13:1)\nh = OR(g:1, i5:1)\noutput h\n")
+        wanted = " ".join(f"{name}={int(name == 'i0')}" for name in names)
+        answer = self.ask("delay", path)
+        self.assertEqual(answer.out, "delay 27\n")
+        self.assertIn(f"Found by cadical: {wanted} settles at 27", answer.err)
+
     def test_blocks(self):
         """A block of 64 inputs and an adder, some inputs late: found, and accepted by the library."""
         for name, made in (("block", large_circuits.random_block(1)), ("adder", large_circuits.bypass_adder(12, 2))):
