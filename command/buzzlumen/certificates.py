@@ -44,9 +44,9 @@ def digest_of(data):
 def write_certificate(circuit, delay, vector, refutation):
     """The text of a certificate."""
     late = late_inputs(circuit.names, circuit.arrivals)
-    lines = [FIRST_LINE, f"netlist sha256 {digest_of(circuit.data)}", *[f"arrivals {' '.join(late)}"] * bool(late),
-             f"delay {delay}", f"vector {shown_vector(vector, circuit.names)}",
-             f"refutation {sum(1 for n in refutation if n == 0)}"]
+    arrivals = ["arrivals " + " ".join(late)] if late else []
+    lines = [FIRST_LINE, f"netlist sha256 {digest_of(circuit.data)}", *arrivals, f"delay {delay}",
+             f"vector {shown_vector(vector, circuit.names)}", f"refutation {sum(1 for n in refutation if n == 0)}"]
     return "".join(line + "\n" for line in lines) + clause_text(refutation)
 
 

@@ -46,7 +46,7 @@ def times(asked, library, say):
 
 def say_late(circuit, say):
     """Which inputs arrive late, where one does."""
-    if any(circuit.arrivals):
+    if late_words(circuit):
         say.words(late_words(circuit))
 
 
@@ -94,7 +94,7 @@ def formula(asked, library, say):
     circuit = load(asked.circuit, library, asked.arrivals)
     built = build(circuit, target, library)
     meanings = Meanings(circuit.names, built.pairs)
-    comments = [*[late_words(circuit)] * any(circuit.arrivals), *meanings.comments()] if asked.names else ()
+    comments = [*filter(None, [late_words(circuit)]), *meanings.comments()] if asked.names else ()
     say.write(dimacs(built, comments).encode(), asked.output, asked.force)
     if not asked.names:
         say_late(circuit, say)
