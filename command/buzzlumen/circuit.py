@@ -129,10 +129,13 @@ def input_parts(word):
     """The name and the arrival in a word `NAME` or `NAME:ARRIVAL`. Whether an arrival is too large is the library's to
     say."""
     name, colon, digits = word.partition(":")
+    if is_digits(word.rpartition("=")[2]) and "=" in word:
+        raise Mistake(f"{shown(word)}: in a circuit's text an arrival stands behind a colon, as b:25")
     if not colon or not is_name(name):
         return word, 0
     if ":" in digits:
-        raise Mistake(f"{shown(word)}: a name holds no colon, and one arrival stands behind it, as b:25")
+        raise Mistake(f"{shown(word)}: a name holds no colon, one arrival stands behind it, as b:25, and blanks part "
+                      "the inputs")
     arrival = number_in(digits, MOST_NUMBER)
     if arrival is None:
         raise Mistake(f"{shown(word)}: an arrival is a number from 0 to {MOST_ARRIVAL} right behind the colon, as b:25")

@@ -28,10 +28,13 @@ MISTAKES = (
     ("input a:soon b\n",
      "line 1: `a:soon`: an arrival is a number from 0 to 9999 right behind the colon, as b:25"),
     ("input a:2.5 b\n", "line 1: `a:2.5`: an arrival is a number from 0 to 9999 right behind the colon, as b:25"),
-    ("input a:3,b:25\n", "line 1: `a:3,b:25`: a name holds no colon, and one arrival stands behind it, as b:25"),
-    ("input a b:c:25\n", "line 1: `b:c:25`: a name holds no colon, and one arrival stands behind it, as b:25"),
+    ("input a:3,b:25\n", "line 1: `a:3,b:25`: a name holds no colon, one arrival stands behind it, as b:25, and "
+     "blanks part the inputs"),
+    ("input a b:c:25\n", "line 1: `b:c:25`: a name holds no colon, one arrival stands behind it, as b:25, and blanks "
+     "part the inputs"),
+    ("input a b=25\n", "line 1: `b=25`: in a circuit's text an arrival stands behind a colon, as b:25"),
     ("input a :25\n", "line 1: `:25` is no name: blanks and ( ) , : = # are kept for the format"),
-    ("input a b=25\n", "line 1: `b=25` is no name: blanks and ( ) , : = # are kept for the format"),
+    ("input a b=c\n", "line 1: `b=c` is no name: blanks and ( ) , : = # are kept for the format"),
     ("input a:3 a:5\n", "line 1: a is named twice"),
     ("input a:" + "9" * 5000 + "\n", "line 1: `a:" + "9" * 58 + "...`: an arrival is a number from 0 to 9999 right "
      "behind the colon, as b:25"),
