@@ -219,11 +219,7 @@ class Fuzz(Asking):
             numbers = [int(word) for word in self.formula.read_text().split()[4:]]
             return ["check", self.formula, self.new_file(data)], lambda answer: wrong_of_steps(numbers, data, answer)
         if kind == 3:
-            circuit, certificate, arrivals = self.dice.choice((
-                (COURSE / "circuit_c.txt", self.certificate, [0, 0, 0, 0]), (self.late_circuit, self.late, LATE_C)))
-            data, netlist = damaged(self.dice, certificate.read_bytes()), self.c.read_bytes()
-            return (["judge", circuit, self.new_file(data)],
-                    lambda answer: wrong_of_certificate(netlist, arrivals, data, answer))
+            return self.certificate_case()
         if kind == 4:
             data = damaged(self.dice, self.block)
             return ["from-yosys", self.new_file(data)], lambda answer: "" if answer.status in (0, 2) else "status"
@@ -237,15 +233,27 @@ class Fuzz(Asking):
                                       ["netlist", "a.netlist"]))
             return words + ["-o", kept], lambda answer: "" if answer.status == 2 else "status"
         if kind == 7:
-            word = damaged_word(self.dice, self.dice.choice(ARRIVALS))
-            name, names = self.dice.choice((("circuit.txt", ("a", "b")), ("a.netlist", ("n0", "n1"))))
-            return (["times", name, "0,1", f"--arrivals={word}"],
-                    lambda answer: wrong_of_arrivals(self.netlists[0], names, word, answer))
+            return self.arrivals_case()
         words = [self.dice.choice(WORDS) for _ in range(self.dice.randrange(6))]
         words = [self.dice.choice(WORDS[:8])] * self.dice.randrange(2) + [word for word in words if word != "--force"]
         # A new output may only stand where the words name one that does not stand yet.
         words = [word for word in words if word != "-o"]
         return words, lambda answer: "" if answer.status in (0, 1, 2) else "status"
+
+    def certificate_case(self):
+        """A damaged certificate of circuit C, with a late input or without."""
+        circuit, certificate, arrivals = self.dice.choice((
+            (COURSE / "circuit_c.txt", self.certificate, [0, 0, 0, 0]), (self.late_circuit, self.late, LATE_C)))
+        data, netlist = damaged(self.dice, certificate.read_bytes()), self.c.read_bytes()
+        return (["judge", circuit, self.new_file(data)],
+                lambda answer: wrong_of_certificate(netlist, arrivals, data, answer))
+
+    def arrivals_case(self):
+        """Damaged arrivals beside circuit A, a text or a netlist file."""
+        word = damaged_word(self.dice, self.dice.choice(ARRIVALS))
+        name, names = self.dice.choice((("circuit.txt", ("a", "b")), ("a.netlist", ("n0", "n1"))))
+        return (["times", name, "0,1", f"--arrivals={word}"],
+                lambda answer: wrong_of_arrivals(self.netlists[0], names, word, answer))
 
     def snapshot(self):
         """Every file of the folder and what it holds."""
