@@ -1,10 +1,10 @@
-// Judges a delay certificate. Standard input is the delay (4 bytes, little endian) and four lists, each behind its length
-// (4 bytes): the vector, one byte an input; the refutation, 4 bytes a number, two's complement, its length in numbers;
-// the netlist; the arrivals, 4 bytes an input, their length in numbers. A list that is cut short is read as far as it
-// goes, and what stands behind the last counts for nothing. Prints `accepted` or `refused number place`. An input of
-// fewer than 8 bytes is `refused 1` and its length. Its room: an input of 524,288 bytes (a longer one: `refused 9
-// 524289`), 32,768 pairs, a formula of 524,288 numbers, 100,000 variables. What matters is certificate::judge's
-// contract. Assumes nothing of its own.
+// Judges a delay certificate. Standard input is the delay (4 bytes, little endian) and four lists, each behind its
+// length (4 bytes): the vector, one byte an input; the refutation, 4 bytes a number, two's complement, its length in
+// numbers; the netlist; the arrivals, 4 bytes an input, their length in numbers. A list that is cut short is read as
+// far as it goes, and what stands behind the last counts for nothing. Prints `accepted` or `refused number place`. An
+// input of fewer than 8 bytes is `refused 1` and its length. Its room: an input of 524,288 bytes (a longer one:
+// `refused 9 524289`), 32,768 pairs, a formula of 524,288 numbers, 100,000 variables. What matters is
+// certificate::judge's contract. Assumes nothing of its own.
 use refusal::Checked;
 use refusal::Refusal;
 ghost use Prim.Native.Nat.{_*_, _≤_};

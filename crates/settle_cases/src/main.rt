@@ -1,10 +1,10 @@
 // Reads a bundle of cases from standard input: a netlist, its arrivals and a vector, each a length (4 bytes, little
 // endian) and that many bytes, or numbers of 4 bytes for the arrivals, then the room for values and the room for times
 // (4 bytes each). Both slices are lent from arrays that are filled with a pattern. For each case it prints one line:
-// `settled time` or `refused number place`, then ` values` and ` times`, each followed by what was lent and four numbers
-// behind it. It ends with the line `bad bundle` at a netlist over 65,535 bytes, over 255 arrivals, a vector over 255, a
-// room over 600, and a case that is cut short. What matters is the contract of settle::evaluate. Assumes nothing of its
-// own.
+// `settled time` or `refused number place`, then ` values` and ` times`, each followed by what was lent and four
+// numbers behind it. It ends with the line `bad bundle` at a netlist over 65,535 bytes, over 255 arrivals, a vector
+// over 255, a room over 600, and a case that is cut short. What matters is the contract of settle::evaluate. Assumes
+// nothing of its own.
 use console::Word;
 use settle::Settled;
 ghost use mathlib.Core.Path.{_≡_};
