@@ -18,6 +18,7 @@ use Rattle.refusal.specs.declared.Refusal.the-variants.{
   Last,
   Step,
   Witness,
+  Arrival,
 }
 use Rattle.refusal.specs.Table.{numberOf}
 use Rattle.refusal.specs.declared.Checked.{Checked}
@@ -41,6 +42,7 @@ numbered (Refutation n) e = omega arith
 numbered (Last n) e = omega arith
 numbered (Step n) e = omega arith
 numbered (Witness n) e = omega arith
+numbered (Arrival n) e = omega arith
 
 -- the answer whose number is 0
 pub only-accepted : (answer : Checked) → checkedOf answer .number ≡ 0 → answer ≡ Passes

@@ -11,8 +11,8 @@ use Rattle.netlist.specs.declared.Opened.{Opened}
 use Rattle.netlist.specs.declared.Opened.the-variants.{Accepted, Refused as Rejected}
 use Rattle.netlist.specs.Netlist.{nodeCount, Circuit}
 use Rattle.netlist.specs.File.{circuitAt}
-use Rattle.netlist.specs.Open.{openOf}
-use Rattle.netlist.proofs.Accepted.{holds}
+use Rattle.netlist.specs.Open.{openCircuitOf}
+use Rattle.netlist.proofs.Calls.{accepted}
 use Rattle.netlist.proofs.Entries.{node-count}
 use Rattle.formula.specs.Promise.{countsFor, refused, built, buildingRows, buildingOf, building}
 use Rattle.formula.proofs.Rows.{of-accepted, of-rejected}
@@ -32,15 +32,15 @@ of-circuit circuit target pairsRoom formulaRoom few =
     go Passes e = let h = pairs-fit circuit target pairsRoom formulaRoom e in omega arith
 
 -- every answer of a building call
-pub small : (file : List ℕ) (target pairsRoom formulaRoom : ℕ) →
-    Small (building file target pairsRoom formulaRoom .answer)
-small file target pairsRoom formulaRoom = go (openOf file) refl
+pub small : (file arrivals : List ℕ) (target pairsRoom formulaRoom : ℕ) →
+    Small (building file arrivals target pairsRoom formulaRoom .answer)
+small file arrivals target pairsRoom formulaRoom = go (openCircuitOf file arrivals) refl
   where
-    go : (o : Opened) → openOf file ≡ o → Small (building file target pairsRoom formulaRoom .answer)
-    go (Rejected refusal) e = rw (of-rejected file target pairsRoom formulaRoom refusal e) tt
+    go : (o : Opened) → openCircuitOf file arrivals ≡ o → Small (building file arrivals target pairsRoom formulaRoom .answer)
+    go (Rejected refusal) e = rw (of-rejected file arrivals target pairsRoom formulaRoom refusal e) tt
     go (Accepted shape) e =
-        let h = holds file shape e in
+        let h = accepted file arrivals e .holds in
         let n = node-count file shape in
-        rw (of-accepted file target pairsRoom formulaRoom shape e)
-        (of-circuit (circuitAt file shape) target pairsRoom formulaRoom
+        rw (of-accepted file arrivals target pairsRoom formulaRoom shape e)
+        (of-circuit (circuitAt file shape arrivals) target pairsRoom formulaRoom
         (omega (arith, h .counts .inputs-few, h .counts .gates-few)))

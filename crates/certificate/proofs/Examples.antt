@@ -2,7 +2,7 @@
 -- verdict. So each row of specs/Cases is a computation read as the promise, and circuit A's largest settling time is
 -- 2, with no vector tried but one. Laws: judgement-exists, cases-hold, largest-of-A. Assumes nothing.
 use mathlib.Core.Path.{_≡_, refl, _∙_}
-use mathlib.Core.List.{List, map, List·Memᴰ, List·Memᴰ·head}
+use mathlib.Core.List.{List, [], _∷_, map, List·Memᴰ, List·Memᴰ·head}
 use Prim.Native.Nat.{ℕ, suc}
 use native.Mathlib.Omega.{arith}
 use lib.IntN.{ℤ}
@@ -12,6 +12,8 @@ use Rattle.netlist.specs.Kinds.{kinds, kindRow}
 use Rattle.netlist.specs.File.{tableBytes, shapeOf, gateAt, pinAt, cellOf, cellAt, netlistAt, pinsFrom, circuitOf}
 use Rattle.netlist.specs.Open.{
   netlistRows,
+  arrivalRows,
+  circuitRows,
   rowsOver,
   firstWrong,
   countWrong,
@@ -28,7 +30,7 @@ use Rattle.netlist.specs.Open.{
 }
 use Rattle.netlist.specs.Example.{circuitA}
 use Rattle.settle.specs.Settling.{gateValue, settles, grow, valuesOf, timesOf, topsOf, circuitTime}
-use Rattle.settle.specs.Promise.{byteWrong, givenRows}
+use Rattle.settle.specs.Promise.{givenRows}
 use Rattle.clauses.specs.Clauses.{flat, clausesFrom, clausesOf}
 use Rattle.refusal.specs.declared.Checked.{Checked}
 use Rattle.refusal.specs.declared.Checked.the-variants.{Passes, Refused}
@@ -53,17 +55,17 @@ use Rattle.certificate.proofs.Granted.{passed-valid, judges-largest}
 -- ---- the promise can be met
 
 -- what the rows and the computed verdict come to
-abbrev pub checkedTo : List ℕ → ℕ → List ℕ → List ℤ → Rooms → Checked
-checkedTo file delay vector refutation rooms =
-    unlessRefused (checked (rowsOver file (certificateRows delay vector refutation rooms))) Refused
+abbrev pub checkedTo : List ℕ → List ℕ → ℕ → List ℕ → List ℤ → Rooms → Checked
+checkedTo file arrivals delay vector refutation rooms =
+    unlessRefused (checked (rowsOver file arrivals (certificateRows delay vector refutation rooms))) Refused
     (answerOf
-    (verdict (suc (countsFor (circuitOf file) (suc delay) .variables))
-    (clausesOf (numbersFor (circuitOf file) (suc delay))) (clausesOf refutation)))
+    (verdict (suc (countsFor (circuitOf file arrivals) (suc delay) .variables))
+    (clausesOf (numbersFor (circuitOf file arrivals) (suc delay))) (clausesOf refutation)))
 
 -- and the judgement
-abbrev pub judgementTo : List ℕ → ℕ → List ℕ → List ℤ → Rooms → Judgement
-judgementTo file delay vector refutation rooms =
-    judgementOf (circuitOf file) delay vector rooms (checkedTo file delay vector refutation rooms)
+abbrev pub judgementTo : List ℕ → List ℕ → ℕ → List ℕ → List ℤ → Rooms → Judgement
+judgementTo file arrivals delay vector refutation rooms =
+    judgementOf (circuitOf file arrivals) delay vector rooms (checkedTo file arrivals delay vector refutation rooms)
 
 -- a judgement meets itself
 itself : {result : Judgement} → Meets result result
@@ -78,17 +80,17 @@ itself =
     }
 
 -- it meets the promise, whatever is judged
-pub judgement-exists : (file : List ℕ) (delay : ℕ) (vector : List ℕ) (refutation : List ℤ) (rooms : Rooms) →
-    Judges file delay vector refutation rooms (judgementTo file delay vector refutation rooms)
+pub judgement-exists : (file arrivals : List ℕ) (delay : ℕ) (vector : List ℕ) (refutation : List ℤ) (rooms : Rooms) →
+    Judges file arrivals delay vector refutation rooms (judgementTo file arrivals delay vector refutation rooms)
 unfolding countsFor
-judgement-exists file delay vector refutation rooms =
-    go (checked (rowsOver file (certificateRows delay vector refutation rooms))) refl
+judgement-exists file arrivals delay vector refutation rooms =
+    go (checked (rowsOver file arrivals (certificateRows delay vector refutation rooms))) refl
   where
     circuit : Circuit
-    circuit = circuitOf file
+    circuit = circuitOf file arrivals
 
-    go : (rows : Checked) → checked (rowsOver file (certificateRows delay vector refutation rooms)) ≡ rows →
-        Judges file delay vector refutation rooms
+    go : (rows : Checked) → checked (rowsOver file arrivals (certificateRows delay vector refutation rooms)) ≡ rows →
+        Judges file arrivals delay vector refutation rooms
         (judgementOf circuit delay vector rooms
         (unlessRefused rows Refused
         (answerOf
@@ -98,11 +100,12 @@ judgement-exists file delay vector refutation rooms =
     go Passes e =
         let own = certificateRows delay vector refutation rooms circuit in
         let p =
-        certificate-passes circuit delay vector refutation rooms (rest-passes (netlistRows file) own e)
+        certificate-passes circuit delay vector refutation rooms (rest-passes (circuitRows file arrivals) own e)
         in
         let few = pairs-fit circuit (suc delay) (rooms .pairs) (rooms .formula) (p .building) in
         let well =
-        numbers-well-formed circuit (passed-valid file (first-passes (netlistRows file) own e)) (suc delay)
+        numbers-well-formed circuit (passed-valid file arrivals (first-passes (circuitRows file arrivals) own e) .0)
+        (suc delay)
         (omega arith)
         in
         record {
@@ -129,25 +132,25 @@ judgement-answer circuit delay vector rooms Passes = refl
 judgement-answer circuit delay vector rooms (Refused refusal) = refl
 
 abbrev pub answerTo : Case → Checked
-answerTo c = checkedTo (c .file) (c .delay) (c .vector) (c .refutation) (c .rooms)
+answerTo c = checkedTo (c .file) (c .arrivals) (c .delay) (c .vector) (c .refutation) (c .rooms)
 
 -- rows that are computed have their answers as the promise means it
 pub computed-hold : (rows : List Case) → map answerTo rows ≡ map (λ (c : Case). c .answer) rows → (c : Case) →
     List·Memᴰ c rows → (result : Judgement)
-    × Judges (c .file) (c .delay) (c .vector) (c .refutation) (c .rooms) result × (result .answer ≡ c .answer)
+    × Judges (c .file) (c .arrivals) (c .delay) (c .vector) (c .refutation) (c .rooms) result × (result .answer ≡ c .answer)
 computed-hold rows e c i = (
-  judgementTo (c .file) (c .delay) (c .vector) (c .refutation) (c .rooms),
-  judgement-exists (c .file) (c .delay) (c .vector) (c .refutation) (c .rooms),
-  judgement-answer (circuitOf (c .file)) (c .delay) (c .vector) (c .rooms)
-      (checkedTo (c .file) (c .delay) (c .vector) (c .refutation) (c .rooms))
+  judgementTo (c .file) (c .arrivals) (c .delay) (c .vector) (c .refutation) (c .rooms),
+  judgement-exists (c .file) (c .arrivals) (c .delay) (c .vector) (c .refutation) (c .rooms),
+  judgement-answer (circuitOf (c .file) (c .arrivals)) (c .delay) (c .vector) (c .rooms)
+      (checkedTo (c .file) (c .arrivals) (c .delay) (c .vector) (c .refutation) (c .rooms))
       ∙ map-each answerTo (λ (d : Case). d .answer) rows e c i,
 )
 
 computed : map answerTo cases ≡ map (λ (c : Case). c .answer) cases
 unfolding
-    cases circuitA wire netlistRows firstWrong countWrong backWrong pinsBefore gateWrong gatePlace sumWrong pinsAt
+    cases circuitA wire netlistRows arrivalRows firstWrong countWrong backWrong pinsBefore gateWrong gatePlace sumWrong pinsAt
     pinWrong pinPlace outputWrong outputPlace kinds kindRow tableBytes shapeOf gateAt pinAt pinsFrom cellOf cellAt
-    netlistAt gateValue settles grow valuesOf timesOf topsOf circuitTime byteWrong givenRows flat clausesFrom
+    netlistAt gateValue settles grow valuesOf timesOf topsOf circuitTime givenRows flat clausesFrom
     isTrue isFree assign say pass refutes assert follows verdict refutationForm firstBeyond ended lastRow firstEmpty
     asked timesAt pairList pairPlace pairsFor clauseOf gateClauses late pairClauses formula pairVariable
     formulaFor numbersFor countsFor buildingRows
@@ -155,12 +158,12 @@ computed = refl
 
 -- each row's call has the row's answer
 pub cases-hold : (c : Case) → List·Memᴰ c cases →
-    (result : Judgement) × Judges (c .file) (c .delay) (c .vector) (c .refutation) (c .rooms) result
+    (result : Judgement) × Judges (c .file) (c .arrivals) (c .delay) (c .vector) (c .refutation) (c .rooms) result
     × (result .answer ≡ c .answer)
 cases-hold = computed-hold cases computed
 
 -- the true delay of circuit A is 2, by its certificate
-pub largest-of-A : Largest (circuitOf circuitA) 2
-unfolding cases
+pub largest-of-A : Largest (circuitOf circuitA (0 ∷ 0 ∷ [])) 2
+unfolding cases circuitA
 largest-of-A =
     let c = cases-hold _ (List·Memᴰ·head refl) in judges-largest (c .1) (c .2)

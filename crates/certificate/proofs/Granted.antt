@@ -8,7 +8,8 @@ use native.Mathlib.Omega.{arith}
 use lib.Dec.{T, eqb}
 use lib.IntN.{ℤ}
 use lib.ListN.{length-map}
-use Rattle.settle.proofs.Nodes.{Arrives, zero-arrives}
+use Rattle.settle.proofs.Nodes.{Arrives}
+use Rattle.settle.proofs.Gates.{net-arrives}
 use Rattle.refusal.specs.declared.Checked.{Checked}
 use Rattle.refusal.specs.declared.Checked.the-variants.{Passes, Refused}
 use Rattle.refusal.specs.Rows.{Row, checked}
@@ -16,10 +17,9 @@ use Rattle.refusal.proofs.Rows.{first-passes, rest-passes}
 use Rattle.netlist.specs.declared.Shape.{Shape}
 use Rattle.netlist.specs.declared.Opened.the-variants.{Accepted}
 use Rattle.netlist.specs.Netlist.{valid, Circuit}
-use Rattle.netlist.specs.File.{netlistOf, shapeOf, circuitOf}
-use Rattle.netlist.specs.Open.{netlistRows, openOf, rowsOver}
-use Rattle.netlist.proofs.Accepted.{holds}
-use Rattle.netlist.proofs.Calls.{accepted-circuit, passed-opened}
+use Rattle.netlist.specs.File.{shapeOf, circuitOf}
+use Rattle.netlist.specs.Open.{circuitRows, openCircuitOf, rowsOver}
+use Rattle.netlist.proofs.Calls.{accepted, accepted-circuit, passed-both}
 use Rattle.settle.specs.Promise.{bits}
 use Rattle.clauses.specs.Clauses.{Literal, clausesOf}
 use Rattle.refute.specs.Propagation.{Judged, passes}
@@ -45,13 +45,13 @@ answer-passes circuit delay vector rooms Passes e = refl
 answer-passes circuit delay vector rooms (Refused refusal) e = let w : _≡_ {A = ℕ} 0 1 = cc in absurd (omega arith)
 
 -- where the answer is a pass, the rows passed, and so did the refutation
-pub judged-passes : {file : List ℕ} {delay : ℕ} {vector : List ℕ} {refutation : List ℤ} {rooms : Rooms}
-    {result : Judgement} → Judges file delay vector refutation rooms result → result .answer ≡ Passes →
-    (checked (rowsOver file (certificateRows delay vector refutation rooms)) ≡ Passes)
-    × Judged (clausesOf (numbersFor (circuitOf file) (suc delay))) (clausesOf refutation) passes
-judged-passes {file} {delay} {vector} {refutation} {rooms} d e =
+pub judged-passes : {file arrivals : List ℕ} {delay : ℕ} {vector : List ℕ} {refutation : List ℤ} {rooms : Rooms}
+    {result : Judgement} → Judges file arrivals delay vector refutation rooms result → result .answer ≡ Passes →
+    (checked (rowsOver file arrivals (certificateRows delay vector refutation rooms)) ≡ Passes)
+    × Judged (clausesOf (numbersFor (circuitOf file arrivals) (suc delay))) (clausesOf refutation) passes
+judged-passes {file} {arrivals} {delay} {vector} {refutation} {rooms} d e =
     passes-both (d .answers)
-    (answer-passes (circuitOf file) delay vector rooms (d .answer)
+    (answer-passes (circuitOf file arrivals) delay vector rooms (d .answer)
     (sym (d .meets .answer-is) ∙ e))
 
 -- of a valid netlist: the rows and the refutation passed, so the delay is the largest settling time
@@ -66,22 +66,26 @@ certificate-largest circuit ok as-many delay vector refutation rooms e verdict =
     refutation verdict
     (refutation-passes (countsFor circuit (suc delay) .variables) refutation (rooms .propagation) (p .testing))
 
--- an accepted file's netlist is valid
-pub opened-valid : (file : List ℕ) (shape : Shape) → openOf file ≡ Accepted shape → T (valid (circuitOf file .net))
-opened-valid file shape e =
-    subst (λ (circuit : Circuit). T (valid (circuit .net))) (sym (accepted-circuit file e)) (holds file shape e .valid)
+-- what is accepted is a valid netlist, with an arrival for each input
+pub opened-valid : (file arrivals : List ℕ) (shape : Shape) → openCircuitOf file arrivals ≡ Accepted shape →
+    T (valid (circuitOf file arrivals .net)) × Arrives (circuitOf file arrivals)
+opened-valid file arrivals shape e =
+    let given = accepted file arrivals e in
+    subst (λ (circuit : Circuit). T (valid (circuit .net)) × Arrives circuit) (sym (accepted-circuit file arrivals e))
+    (given .holds .valid, net-arrives file (given .arrived))
 
--- and so is that of a file that passes the rows 1 to 7
-pub passed-valid : (file : List ℕ) → checked (netlistRows file) ≡ Passes → T (valid (circuitOf file .net))
-passed-valid file e = opened-valid file (shapeOf file) (passed-opened file e)
+-- and so is what passes the rows 1 to 7 and 16
+pub passed-valid : (file arrivals : List ℕ) → checked (circuitRows file arrivals) ≡ Passes →
+    T (valid (circuitOf file arrivals .net)) × Arrives (circuitOf file arrivals)
+passed-valid file arrivals e = opened-valid file arrivals (shapeOf file) (passed-both file arrivals e)
 
 -- of any bytes: a pass means the largest settling time
-pub judges-largest : {file : List ℕ} {delay : ℕ} {vector : List ℕ} {refutation : List ℤ} {rooms : Rooms}
-    {result : Judgement} → Judges file delay vector refutation rooms result → result .answer ≡ Passes →
-    Largest (circuitOf file) delay
-judges-largest {file} {delay} {vector} {refutation} {rooms} d e =
-    let rows = certificateRows delay vector refutation rooms (circuitOf file) in
+pub judges-largest : {file arrivals : List ℕ} {delay : ℕ} {vector : List ℕ} {refutation : List ℤ} {rooms : Rooms}
+    {result : Judgement} → Judges file arrivals delay vector refutation rooms result → result .answer ≡ Passes →
+    Largest (circuitOf file arrivals) delay
+judges-largest {file} {arrivals} {delay} {vector} {refutation} {rooms} d e =
+    let rows = certificateRows delay vector refutation rooms (circuitOf file arrivals) in
     let both = judged-passes d e in
-    certificate-largest (circuitOf file) (passed-valid file (first-passes (netlistRows file) rows (both .0)))
-    (zero-arrives (netlistOf file)) delay
-    vector refutation rooms (rest-passes (netlistRows file) rows (both .0)) (both .1)
+    let sound = passed-valid file arrivals (first-passes (circuitRows file arrivals) rows (both .0)) in
+    certificate-largest (circuitOf file arrivals) (sound .0) (sound .1) delay vector refutation rooms
+    (rest-passes (circuitRows file arrivals) rows (both .0)) (both .1)

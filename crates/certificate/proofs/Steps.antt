@@ -21,16 +21,19 @@ use Rattle.refusal.proofs.Rows.{stops, goes-on, refused-first, passed-first}
 use Rattle.netlist.specs.declared.Shape.{Shape}
 use Rattle.netlist.specs.declared.Opened.{Opened}
 use Rattle.netlist.specs.declared.Opened.the-variants.{Accepted as Taken, Refused as Untaken}
-use Rattle.netlist.specs.Netlist.{Netlist, valid, Circuit, atZero}
+use Rattle.netlist.specs.Netlist.{valid, Circuit}
 use Rattle.netlist.specs.File.{circuitAt}
-use Rattle.netlist.specs.Open.{openOf, rowsOver}
+use Rattle.netlist.specs.Open.{openCircuitOf, rowsOver}
+use Rattle.netlist.specs.Holds.{Given}
 use Rattle.netlist.proofs.Calls.{accepted-circuit, rows-accepted, rows-rejected}
 use Rattle.settle.specs.declared.Settled.{Settled}
 use Rattle.settle.specs.declared.Settled.the-variants.{At, Refused as Unsettled}
 use Rattle.settle.specs.Settling.{circuitTime}
 use Rattle.settle.specs.Promise.{bits, evaluationRows, evaluationOf}
 use Rattle.settle.proofs.Checks.{answer-refused, answer-time}
+use Rattle.settle.specs.Steps.{latest}
 use Rattle.settle.proofs.Nodes.{circuit-small}
+use Rattle.settle.proofs.Gates.{net-arrives}
 use Rattle.clauses.specs.Clauses.{clausesOf}
 use Rattle.refute.specs.Rows.{refutationRows, WellFormed}
 use Rattle.refute.specs.Promise.{Answers, malformed, Tested}
@@ -60,12 +63,16 @@ use Rattle.certificate.proofs.Numbers.{numbers-well-formed}
 -- ---- the vector
 
 -- a time at which a vector settles is small
-pub time-small : (net : Netlist) (vector : List ℕ) (valuesRoom timesRoom : ℕ) {answer : Settled} {time : ℕ} →
-    T (valid net) → answer ≡ evaluationOf (atZero net) vector valuesRoom timesRoom .answer → answer ≡ At time →
-    time ≤ 447552
-time-small net vector valuesRoom timesRoom ok a e =
-    let s = answer-time (atZero net) vector valuesRoom timesRoom a e in
-    let h = circuit-small net ok (bits vector) in
+pub time-small : {file : List ℕ} {shape : Shape} {arrivals : List ℕ} (vector : List ℕ) (valuesRoom timesRoom : ℕ)
+    {answer : Settled} {time : ℕ} → Given file shape arrivals →
+    answer ≡ evaluationOf (circuitAt file shape arrivals) vector valuesRoom timesRoom .answer → answer ≡ At time →
+    time ≤ latest
+time-small {file} {shape} {arrivals} vector valuesRoom timesRoom g a e =
+    let circuit = circuitAt file shape arrivals in
+    let s = answer-time circuit vector valuesRoom timesRoom a e in
+    let h =
+    circuit-small circuit (g .holds .valid) (net-arrives file (g .arrived)) (g .arrived .early) (bits vector)
+    in
     omega (arith, s .1)
 
 -- ---- the refutation's part
@@ -263,33 +270,33 @@ module _ {circuit : Circuit} {delay : ℕ} {vector : List ℕ} {refutation : Lis
 
 -- ---- of any bytes
 
-module _ {file : List ℕ} {delay : ℕ} {vector : List ℕ} {refutation : List ℤ} {rooms : Rooms} where
+module _ {file arrivals : List ℕ} {delay : ℕ} {vector : List ℕ} {refutation : List ℤ} {rooms : Rooms} where
   -- the file is refused
-  pub judges-unopened : {opened : Opened} {refusal : Refusal} {result : Judgement} → opened ≡ openOf file →
-      opened ≡ Untaken refusal → Meets (refused rooms refusal) result → Judges file delay vector refutation rooms result
+  pub judges-unopened : {opened : Opened} {refusal : Refusal} {result : Judgement} → opened ≡ openCircuitOf file arrivals →
+      opened ≡ Untaken refusal → Meets (refused rooms refusal) result → Judges file arrivals delay vector refutation rooms result
   judges-unopened {opened} {refusal} o e z =
       record {
         answer = Refused refusal;
-        answers = malformed (rows-rejected file (certificateRows delay vector refutation rooms) (sym o ∙ e));
+        answers = malformed (rows-rejected file arrivals (certificateRows delay vector refutation rooms) (sym o ∙ e));
         meets = z;
       }
 
   -- the file is accepted, and its certificate was looked at
   module _ {opened : Opened} {shape : Shape} {answer : Checked} {values times pairs : List ℕ} {formula : List ℤ}
-      {propagation : List ℕ} (o : opened ≡ openOf file) (e : opened ≡ Taken shape)
-      (c : Certified (circuitAt file shape) delay vector refutation rooms answer values times pairs formula
+      {propagation : List ℕ} (o : opened ≡ openCircuitOf file arrivals) (e : opened ≡ Taken shape)
+      (c : Certified (circuitAt file shape arrivals) delay vector refutation rooms answer values times pairs formula
       propagation) where
-    judges : {result : Judgement} → Meets (judgementOf (circuitAt file shape) delay vector rooms answer) result →
-        Judges file delay vector refutation rooms result
+    judges : {result : Judgement} → Meets (judgementOf (circuitAt file shape arrivals) delay vector rooms answer) result →
+        Judges file arrivals delay vector refutation rooms result
     judges r =
-        let same = accepted-circuit file (sym o ∙ e) in
+        let same = accepted-circuit file arrivals (sym o ∙ e) in
         record {
           answer = answer;
           answers =
-              answers-as (sym (rows-accepted file (certificateRows delay vector refutation rooms) (sym o ∙ e)))
+              answers-as (sym (rows-accepted file arrivals (certificateRows delay vector refutation rooms) (sym o ∙ e)))
               (subst
               (λ (circuit : Circuit).
-              Answers (certificateRows delay vector refutation rooms (circuitAt file shape))
+              Answers (certificateRows delay vector refutation rooms (circuitAt file shape arrivals))
               (clausesOf (numbersFor circuit (suc delay))) (clausesOf refutation) answer)
               (sym same) (c .answers));
           meets = meets-as (ap (λ (circuit : Circuit). judgementOf circuit delay vector rooms answer) (sym same)) r;
@@ -298,16 +305,16 @@ module _ {file : List ℕ} {delay : ℕ} {vector : List ℕ} {refutation : List 
     -- it is refused
     pub judges-refused : {refusal : Refusal} {result : Judgement} → answer ≡ Refused refusal →
         Meets (refused (roomsOf values times pairs formula propagation) refusal) result →
-        Judges file delay vector refutation rooms result
+        Judges file arrivals delay vector refutation rooms result
     judges-refused {refusal} q z =
         judges
         (meets-as
         (ap (λ (k : Rooms). refused k refusal) (c .rooms-are)
-        ∙ sym (ap (judgementOf (circuitAt file shape) delay vector rooms) q))
+        ∙ sym (ap (judgementOf (circuitAt file shape arrivals) delay vector rooms) q))
         z)
 
     -- it is accepted
     pub judges-accepted : answer ≡ Passes →
-        Judges file delay vector refutation rooms (leaving Passes values times pairs formula propagation)
+        Judges file arrivals delay vector refutation rooms (leaving Passes values times pairs formula propagation)
     judges-accepted q =
-        judges (meets-as (sym (ap (judgementOf (circuitAt file shape) delay vector rooms) q)) (c .leaves q))
+        judges (meets-as (sym (ap (judgementOf (circuitAt file shape arrivals) delay vector rooms) q)) (c .leaves q))

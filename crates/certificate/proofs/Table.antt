@@ -1,7 +1,7 @@
 -- The one statement over the one table: every row stands. Each kind of row was computed beside its definitions.
 -- Assumes nothing.
 use mathlib.Core.Path.{_≡_, sym, ap, subst}
-use mathlib.Core.List.{List, _++_, map, List·Memᴰ, List·Memᴰ·append-cases}
+use mathlib.Core.List.{List, [], _∷_, _++_, map, List·Memᴰ, List·Memᴰ·append-cases}
 use mathlib.Core.Logic.{_⊎_, inl, inr}
 use lib.ListN.{length}
 use Rattle.basics.proofs.Lists.{map-mem, map-each}
@@ -61,7 +61,7 @@ numbers-stand =
 
 -- what an evaluation with the row's rooms gives
 abbrev evaluated : Settling → Evaluation
-evaluated c = evaluation (c .file) (c .vector) (length (c .expected .values)) (length (c .expected .times))
+evaluated c = evaluation (c .file) (c .arrivals) (c .vector) (length (c .expected .values)) (length (c .expected .times))
 
 pub table-stands : (r : Entry) → List·Memᴰ r table → Stands r
 unfolding table
@@ -77,12 +77,12 @@ table-stands =
     (map-each evaluated (λ (c : Settling). c .expected) settlingEdges settlingEdges-hold))
     (joined
     (made forms formings
-    (map-each (λ (c : Forming). building circuitA (c .target) (c .pairsRoom) (c .formulaRoom))
+    (map-each (λ (c : Forming). building circuitA (0 ∷ 0 ∷ []) (c .target) (c .pairsRoom) (c .formulaRoom))
     (λ (c : Forming). c .leaves) formings formings-hold))
     (joined
     (made builds buildings
     (map-each
-    (λ (c : Building). building (c .file) (c .target) (length (c .leaves .pairs)) (length (c .leaves .formula)))
+    (λ (c : Building). building (c .file) (c .arrivals) (c .target) (length (c .leaves .pairs)) (length (c .leaves .formula)))
     (λ (c : Building). c .leaves) buildings buildings-hold))
     (joined (made checks checkings checkings-hold)
     (joined (made checks checkingEdges checkingEdges-hold)

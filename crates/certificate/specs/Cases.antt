@@ -3,15 +3,18 @@
 use mathlib.Core.List.{List, [], _∷_}
 use Prim.Native.Nat.{ℕ}
 use lib.IntN.{ℤ, pos}
+use lib.ListN.{replicate}
 use Rattle.refusal.specs.declared.Refusal.the-variants.{Vector, Room, Pairs, Refutation, Last, Step, Witness}
 use Rattle.refusal.specs.declared.Checked.{Checked}
 use Rattle.refusal.specs.declared.Checked.the-variants.{Passes, Refused}
+use Rattle.netlist.specs.File.{inputs}
 use Rattle.netlist.specs.Example.{circuitA}
 use Rattle.certificate.specs.Promise.{Rooms}
 
 -- one certificate call and its answer
 pub record Case : Type 0 where
   pub file : List ℕ
+  pub arrivals : List ℕ
   pub delay : ℕ
   pub vector : List ℕ
   pub refutation : List ℤ
@@ -24,16 +27,21 @@ lending values times pairs formula propagation =
     record { values = values; times = times; pairs = pairs; formula = formula; propagation = propagation }
 
 -- a call and its answer
-abbrev pub case : List ℕ → ℕ → List ℕ → List ℤ → Rooms → Checked → Case
-case file delay vector refutation rooms answer =
+abbrev pub arriving : List ℕ → List ℕ → ℕ → List ℕ → List ℤ → Rooms → Checked → Case
+arriving file arrivals delay vector refutation rooms answer =
     record {
       file = file;
+      arrivals = arrivals;
       delay = delay;
       vector = vector;
       refutation = refutation;
       rooms = rooms;
       answer = answer;
     }
+
+-- all inputs at 0
+abbrev pub case : List ℕ → ℕ → List ℕ → List ℤ → Rooms → Checked → Case
+case file = arriving file (replicate (inputs file) 0)
 
 -- one input that is the output, and no gate
 unfoldable pub wire : List ℕ

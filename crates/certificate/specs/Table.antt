@@ -3,7 +3,7 @@
 -- definitions that they are about (Cases, Examples: rule X3's; Edges: the others); proofs/Table has the one
 -- statement over this table. Interface: Entry, Stands, table.
 use mathlib.Core.Path.{_≡_}
-use mathlib.Core.List.{List, _++_, map, List·Memᴰ}
+use mathlib.Core.List.{List, [], _∷_, _++_, map, List·Memᴰ}
 use lib.ListN.{length}
 use Rattle.refusal.specs.Table.{numberOf, placeOf}
 use Rattle.refusal.specs.Edges.{Case as Numbering, edges as numberings}
@@ -42,15 +42,15 @@ abbrev pub Stands : Entry → Type 0
 Stands (numbers c) = (numberOf (c .refusal) ≡ c .number) × (placeOf (c .refusal) ≡ c .place)
 Stands (opens c) = openOf (c .file) ≡ c .answer
 Stands (settles c) =
-    evaluation (c .file) (c .vector) (length (c .expected .values)) (length (c .expected .times)) ≡ c .expected
-Stands (forms c) = building circuitA (c .target) (c .pairsRoom) (c .formulaRoom) ≡ c .leaves
+    evaluation (c .file) (c .arrivals) (c .vector) (length (c .expected .values)) (length (c .expected .times)) ≡ c .expected
+Stands (forms c) = building circuitA (0 ∷ 0 ∷ []) (c .target) (c .pairsRoom) (c .formulaRoom) ≡ c .leaves
 Stands (builds c) =
-    building (c .file) (c .target) (length (c .leaves .pairs)) (length (c .leaves .formula)) ≡ c .leaves
+    building (c .file) (c .arrivals) (c .target) (length (c .leaves .pairs)) (length (c .leaves .formula)) ≡ c .leaves
 Stands (checks c) = Checks (c .variables) (c .formula) (c .refutation) (c .room) (c .answer)
 Stands (follows f) =
     (c : List Literal) → List·Memᴰ c (clausesOf (f .clause)) → Follows (clausesOf (f .formula)) c
 Stands (certifies c) =
-    (result : Judgement) × Judges (c .file) (c .delay) (c .vector) (c .refutation) (c .rooms) result
+    (result : Judgement) × Judges (c .file) (c .arrivals) (c .delay) (c .vector) (c .refutation) (c .rooms) result
     × (result .answer ≡ c .answer)
 
 -- the table

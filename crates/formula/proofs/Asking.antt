@@ -7,7 +7,7 @@ use Prim.Native.Nat.{ℕ, zero, suc, _+_, _-_, _*_, _≤_, _<_}
 use native.Mathlib.Omega.{arith}
 use native.Mathlib.Numerals.{add-one}
 use lib.Dec.{eqb}
-use lib.ListN.{length, getD, take, set}
+use lib.ListN.{length, getD, take, set, length-set}
 use lib.Seq.{take-suc-set, getD-take}
 use borrow.Author.Tests.{le-ltb}
 use Rattle.basics.specs.Lists.{any, concatMap, upFrom}
@@ -50,9 +50,10 @@ use Rattle.formula.specs.Late.{
   outputsLate,
   Asking,
   Served,
+  Long,
   Reads,
 }
-use Rattle.formula.proofs.Late.{late-sure, late-run, late-control, clause-run}
+use Rattle.formula.proofs.Late.{halved, late-sure, late-run, late-control, clause-run}
 use Rattle.formula.proofs.Gates.{pinRun, simple-tokens, parity-tokens, mux-tokens}
 
 -- ---- reading
@@ -80,31 +81,39 @@ module _ (f : ℕ → ℕ) (first i v : ℕ) (xs : List ℕ) where
       ∙ sym (ap (map f) (upFrom-append first i 1) ∙ map-append f (upFrom first i) ((first + i) ∷ []))
 
 pub reads-none : (file : List ℕ) (l : Lent) (side : Side) (first t : ℕ) (nodes lates : List ℕ) →
-    Reads file l side first 0 t nodes lates false
-reads-none file l side first t nodes lates = record { nodes-are = refl; lates-are = refl; some-is = refl }
+    Long nodes lates → Reads file l side first 0 t nodes lates false
+reads-none file l side first t nodes lates w =
+    record { nodes-are = refl; lates-are = refl; some-is = refl; long = w }
 
 pub reads-more : {file : List ℕ} {l : Lent} {side : Side} {first i t : ℕ} {nodes lates nodes′ lates′ : List ℕ}
-    {some : Bool} (node late : ℕ) → Reads file l side first i t nodes lates some → i < length nodes → i < length lates →
+    {some : Bool} (node late : ℕ) → Reads file l side first i t nodes lates some → i < 64 →
     node ≡ nodeAt file (l .shape) side (first + i) →
     {time : ℕ} → time ≡ timeAt file (l .shape) side t (first + i) → late ≡ partCode (lateIn l node time) →
     nodes′ ≡ set nodes i node → lates′ ≡ set lates i late →
     Reads file l side first (i + 1) t nodes′ lates′ (some || eqb late 1)
-reads-more {file} {l} {side} {first} {i} {t} {nodes} {lates} {nodes′} {lates′} {some} node late r h k d {time} e c n m =
+reads-more {file} {l} {side} {first} {i} {t} {nodes} {lates} {nodes′} {lates′} {some} node late r h d {time} e c n m =
     let test : ℕ → Bool = λ entry. isSure (lateAt file l side t entry) in
     let f : late ≡ partCode (lateAt file l side t (first + i)) =
     c ∙ ap₂ (λ (x y : ℕ). partCode (lateIn l x y)) d e in
     record {
       nodes-are =
-          ap (take (i + 1)) n ∙ next-stored (nodeAt file (l .shape) side) first i node nodes (r .nodes-are) h d;
+          ap (take (i + 1)) n ∙ next-stored (nodeAt file (l .shape) side) first i node nodes (r .nodes-are)
+          (omega (arith, r .long .nodes-long)) d;
       lates-are =
           ap (take (i + 1)) m
-          ∙ next-stored (λ entry. partCode (lateAt file l side t entry)) first i late lates (r .lates-are) k f;
+          ∙ next-stored (λ entry. partCode (lateAt file l side t entry)) first i late lates (r .lates-are)
+          (omega (arith, r .long .lates-long)) f;
       some-is =
           ap₂ (λ (a b : Bool). a || b) (r .some-is)
           (ap (λ (x : ℕ). eqb x 1) f
           ∙ late-sure l (nodeAt file (l .shape) side (first + i)) (timeAt file (l .shape) side t (first + i))
           ∙ sym (one (test (first + i))))
           ∙ sym (ap (any test) (upFrom-append first i 1) ∙ any-append test (upFrom first i) ((first + i) ∷ []));
+      long =
+          record {
+            nodes-long = ap length n ∙ length-set nodes i node ∙ r .long .nodes-long;
+            lates-long = ap length m ∙ length-set lates i late ∙ r .long .lates-long;
+          };
     }
   where
     one : (b : Bool) → (b || false) ≡ b
@@ -155,19 +164,20 @@ module _ {file : List ℕ} {l : Lent} {side : Side} {first count t : ℕ} {nodes
   late-read = stored-at (λ e. partCode (lateAt file l side t e)) first count lates (r .lates-are)
 
   -- what each adds, by what it asks for
-  shares-read : (share : Share) (own : ℕ) →
-      sharesRun share own nodes lates count
-      ≡ concatMap (λ e. shareRun share own (nodeAt file (l .shape) side e) (partCode (lateAt file l side t e)))
+  shares-read : (share : Share) (c k : Bool) (own : ℕ) →
+      sharesRun share c k own nodes lates count
+      ≡ concatMap (λ e. shareRun share c k own (nodeAt file (l .shape) side e) (partCode (lateAt file l side t e)))
       (upFrom first count)
-  shares-read share own =
-      from-zero (λ i. shareRun share own (getD nodes i 0) (getD lates i 0))
-      (λ e. shareRun share own (nodeAt file (l .shape) side e) (partCode (lateAt file l side t e))) first count
+  shares-read share c k own =
+      from-zero (λ i. shareRun share c k own (getD nodes i 0) (getD lates i 0))
+      (λ e. shareRun share c k own (nodeAt file (l .shape) side e) (partCode (lateAt file l side t e))) first count
       (λ i h.
-      ap₂ (shareRun share own) (stored-at (nodeAt file (l .shape) side) first count nodes (r .nodes-are) i h)
+      ap₂ (shareRun share c k own) (stored-at (nodeAt file (l .shape) side) first count nodes (r .nodes-are) i h)
       (late-read i h))
 
   -- the clause of their parts, after a head that is not true outright
-  late-clause-read : (head : ℕ) (hs : List (Part ℕ)) → codeRun head ≡ concatMap partRun hs → any isSure hs ≡ false →
+  late-clause-read : (head : ℕ) (hs : List (Part ℕ)) → codeRun false head ≡ concatMap partRun hs →
+      any isSure hs ≡ false →
       lateRun head count lates some
       ≡ tokensOf (clauseOf (hs ++ map (lateAt file l side t) (upFrom first count)))
   late-clause-read head hs e f =
@@ -178,10 +188,10 @@ module _ {file : List ℕ} {l : Lent} {side : Side} {first count t : ℕ} {nodes
       ∙ sym (any-append isSure hs (map late entries)
       ∙ ap (λ (b : Bool). b || any isSure (map late entries)) f
       ∙ any-map isSure late entries) in
-      let p : concatMap (λ i. codeRun (getD lates i 0)) (upFrom 0 count) ≡ concatMap partRun (map late entries) =
-      from-zero (λ i. codeRun (getD lates i 0)) (λ n. partRun (late n)) first count
+      let p : concatMap (λ i. codeRun true (getD lates i 0)) (upFrom 0 count) ≡ concatMap partRun (map late entries) =
+      from-zero (λ i. codeRun true (getD lates i 0)) (λ n. partRun (late n)) first count
       (λ i h.
-      ap codeRun (late-read i h)
+      ap (codeRun true) (late-read i h)
       ∙ late-run l (nodeAt file (l .shape) side (first + i)) (timeAt file (l .shape) side t (first + i)))
       ∙ runs-of partRun late entries in
       ap₂ (λ (b : Bool) (x : List Token). cond b [] (x ++ (ended ∷ []))) s
@@ -193,16 +203,16 @@ module _ {file : List ℕ} {l : Lent} {side : Side} {first count t : ℕ} {nodes
 module _ {file : List ℕ} {l : Lent} {first count t : ℕ} {nodes lates : List ℕ} {some : Bool}
     (r : Reads file l Pins first count t nodes lates some) where
   -- what each pin adds where no time is asked for
-  pins-read : (share : Share) (own : ℕ) →
-      ((e : ℕ) → shareRun share own (nodeAt file (l .shape) Pins e) (partCode (lateAt file l Pins t e))
-      ≡ pinRun share own (pinAt file (l .shape) e)) →
-      sharesRun share own nodes lates count
-      ≡ concatMap (pinRun share own) (pinsFrom file (l .shape) first count)
+  pins-read : (share : Share) (c k : Bool) (own : ℕ) →
+      ((e : ℕ) → shareRun share c k own (nodeAt file (l .shape) Pins e) (partCode (lateAt file l Pins t e))
+      ≡ pinRun share c k own (pinAt file (l .shape) e)) →
+      sharesRun share c k own nodes lates count
+      ≡ concatMap (pinRun share c k own) (pinsFrom file (l .shape) first count)
   unfolding pinsFrom
-  pins-read share own h =
-      shares-read r share own
+  pins-read share c k own h =
+      shares-read r share c k own
       ∙ each-as _ _ h (upFrom first count)
-      ∙ runs-of (pinRun share own) (pinAt file (l .shape)) (upFrom first count)
+      ∙ runs-of (pinRun share c k own) (pinAt file (l .shape)) (upFrom first count)
 
   -- a simple gate's clauses
   pub simple-read : (c k : Bool) (node : ℕ) →
@@ -211,7 +221,7 @@ module _ {file : List ℕ} {l : Lent} {first count t : ℕ} {nodes lates : List 
   unfolding pinAt
   simple-read c k node =
       ap₂ (λ (x y : List Token). ((x ++ y) ++ (wants (not k, node + 1) ∷ [])) ++ (ended ∷ []))
-      (pins-read (Forced c k) (node + 1) (λ e. refl)) (pins-read (Driver c) (node + 1) (λ e. refl))
+      (pins-read Forced c k (node + 1) (λ e. refl)) (pins-read Driver c k (node + 1) (λ e. refl))
       ∙ simple-tokens c k node (pinsFrom file (l .shape) first count)
 
   -- a parity gate's clauses, and a multiplexer's
@@ -236,23 +246,23 @@ module _ {file : List ℕ} {l : Lent} {first count t : ℕ} {nodes lates : List 
 
   -- "-p, driver late, driver is not c"
   pub control-read : (c : Bool) (pair : ℕ) →
-      sharesRun (Control c) pair nodes lates count
+      sharesRun Control c false pair nodes lates count
       ≡ concatMap (pinControl l c pair t) (pinsFrom file (l .shape) first count)
   unfolding pinsFrom pinAt
   control-read c pair =
-      shares-read r (Control c) pair
+      shares-read r Control c false pair
       ∙ each-as _ _
       (λ e.
-      late-control l (nodeAt file (l .shape) Pins e) (timeAt file (l .shape) Pins t e) c pair
+      late-control l (nodeAt file (l .shape) Pins e) (timeAt file (l .shape) Pins t e) c false pair
       (nodeAt file (l .shape) Pins e)) (upFrom first count)
       ∙ runs-of (pinControl l c pair t) (pinAt file (l .shape)) (upFrom first count)
 
   -- "-p, or some driver late"
   pub late-drivers : (pair : ℕ) → 0 < pair →
-      lateRun (pair * 2 + 1) count lates some ≡ driversLate l pair (pinsFrom file (l .shape) first count) t
+      lateRun (pair * 2) count lates some ≡ driversLate l pair (pinsFrom file (l .shape) first count) t
   unfolding pinsFrom pinAt
   late-drivers pair h =
-      late-clause-read r (pair * 2 + 1) (literal false pair ∷ []) (rw (le-ltb (pair * 2 + 1) 2 (omega arith))) refl
+      late-clause-read r (pair * 2) (literal false pair ∷ []) (rw (le-ltb (pair * 2) 2 (omega arith), halved pair)) refl
       ∙ ap (λ (ps : List (Part ℕ)). tokensOf (clauseOf (literal false pair ∷ ps)))
       (sym (map-map (pinLate l t) (pinAt file (l .shape)) (upFrom first count)))
 

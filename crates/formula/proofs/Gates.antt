@@ -37,13 +37,13 @@ tokens-concatMap f (x ∷ xs) =
 -- ---- a simple gate
 
 -- what one pin adds where no time is asked for
-abbrev pub pinRun : Share → ℕ → Pin → List Token
-pinRun share own p = shareRun share own (p .driver) 0
+abbrev pub pinRun : Share → Bool → Bool → ℕ → Pin → List Token
+pinRun share c k own p = shareRun share c k own (p .driver) 0
 
 module _ (c k : Bool) (node : ℕ) where
   forced-tokens : (ps : List Pin) →
       tokensOf (map (λ p. (not c, suc (p .driver)) ∷ (k, suc node) ∷ []) ps)
-      ≡ concatMap (pinRun (Forced c k) (node + 1)) ps
+      ≡ concatMap (pinRun Forced c k (node + 1)) ps
   unfolding tokensOf
   forced-tokens [] = refl
   forced-tokens (p ∷ ps) =
@@ -53,21 +53,21 @@ module _ (c k : Bool) (node : ℕ) where
 
   driver-tokens : (ps : List Pin) (gate : Literal) →
       map wants (map (λ p. (c, suc (p .driver))) ps ++ (gate ∷ []))
-      ≡ concatMap (pinRun (Driver c) (node + 1)) ps ++ (wants gate ∷ [])
+      ≡ concatMap (pinRun Driver c k (node + 1)) ps ++ (wants gate ∷ [])
   driver-tokens [] gate = refl
   driver-tokens (p ∷ ps) gate =
       rw (add-one (p .driver))
       (ap (λ (t : List Token). wants (c, suc (p .driver)) ∷ t) (driver-tokens ps gate))
 
   pub simple-tokens : (ps : List Pin) →
-      ((concatMap (pinRun (Forced c k) (node + 1)) ps ++ concatMap (pinRun (Driver c) (node + 1)) ps)
+      ((concatMap (pinRun Forced c k (node + 1)) ps ++ concatMap (pinRun Driver c k (node + 1)) ps)
       ++ (wants (not k, node + 1) ∷ [])) ++ (ended ∷ [])
       ≡ tokensOf (gateClauses nodeVariable (Simple c k) ps node)
   unfolding gateClauses tokensOf
   simple-tokens ps =
       let gate : Literal = (not k, suc node) in
-      let forced : List Token = concatMap (pinRun (Forced c k) (node + 1)) ps in
-      let drivers : List Token = concatMap (pinRun (Driver c) (node + 1)) ps in
+      let forced : List Token = concatMap (pinRun Forced c k (node + 1)) ps in
+      let drivers : List Token = concatMap (pinRun Driver c k (node + 1)) ps in
       ap (λ (n : ℕ). ((forced ++ drivers) ++ (wants (not k, n) ∷ [])) ++ (ended ∷ [])) (add-one node)
       ∙ append-assoc (forced ++ drivers) (wants gate ∷ []) (ended ∷ [])
       ∙ append-assoc forced drivers (wants gate ∷ ended ∷ [])

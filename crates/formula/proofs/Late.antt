@@ -109,6 +109,10 @@ module _ {l : Lent} {node t : ℕ} where
         small = omega arith;
       }
 
+-- a variable from its code
+pub halved : (x : ℕ) → x * 2 / 2 ≡ x
+halved x = omega arith
+
 module _ (l : Lent) (node t : ℕ) where
   -- what holds of true and of false outright and of each literal of a variable above 0 holds of lateness at t
   late-any : (P : Part ℕ → Type 0) → P sure → P never → ((n : ℕ) → P (literal true (suc n))) → P (lateIn l node t)
@@ -129,21 +133,22 @@ module _ (l : Lent) (node t : ℕ) where
       (λ n. ne-eqb (suc n * 2) 1 (λ e. absurd (omega arith)))
 
   -- its run is that of its code
-  pub late-run : codeRun (partCode (lateIn l node t)) ≡ partRun (lateIn l node t)
+  pub late-run : codeRun true (partCode (lateIn l node t)) ≡ partRun (lateIn l node t)
   late-run =
-      late-any (λ p. codeRun (partCode p) ≡ partRun p) refl refl (λ n. rw (le-ltb (suc n * 2) 2 (omega arith)))
+      late-any (λ p. codeRun true (partCode p) ≡ partRun p) refl refl
+      (λ n. rw (le-ltb (suc n * 2) 2 (omega arith), halved (suc n)))
 
   -- one pin's further clause of a simple gate, by the codes
-  pub late-control : (c : Bool) (own driver : ℕ) →
-      shareRun (Control c) own driver (partCode (lateIn l node t))
+  pub late-control : (c k : Bool) (own driver : ℕ) →
+      shareRun Control c k own driver (partCode (lateIn l node t))
       ≡ tokensOf (clauseOf (literal false own ∷ lateIn l node t ∷ literal (not c) (suc driver) ∷ []))
   unfolding clauseOf tokensOf
-  late-control c own driver =
+  late-control c k own driver =
       late-any
       (λ p.
-      shareRun (Control c) own driver (partCode p)
+      shareRun Control c k own driver (partCode p)
       ≡ tokensOf (clauseOf (literal false own ∷ p ∷ literal (not c) (driver + 1) ∷ []))) refl refl
-      (λ n. rw (ne-eqb (suc n * 2) 1 (λ e. absurd (omega arith)), le-ltb (suc n * 2) 2 (omega arith)))
+      (λ n. rw (ne-eqb (suc n * 2) 1 (λ e. absurd (omega arith)), le-ltb (suc n * 2) 2 (omega arith), halved (suc n)))
       ∙ ap (λ (n : ℕ). tokensOf (clauseOf (literal false own ∷ lateIn l node t ∷ literal (not c) n ∷ [])))
       (add-one driver)
 

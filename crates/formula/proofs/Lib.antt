@@ -2,7 +2,7 @@
 -- (lateness and its code), Asking (what was read of drivers and outputs, and what they add), PairClauses (what is put
 -- for one pair), Numbers (what was put is the list's numbers), Table (the lent table is what the code leans on), Whole
 -- (what is put is the formula), Rows (the rows of the promise), Answers (what an answer says of them), Unique (one
--- answer and one content for each input).
+-- answer and one content for each input), AtZero (all inputs at 0).
 pub mod Emission
 pub mod Gates
 pub mod Late
@@ -14,3 +14,4 @@ pub mod Whole
 pub mod Rows
 pub mod Answers
 pub mod Unique
+pub mod AtZero

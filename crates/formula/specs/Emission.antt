@@ -3,7 +3,7 @@
 use mathlib.Core.Path.{_≡_}
 use mathlib.Core.Bool.{Bool, true, false, not, cond}
 use mathlib.Core.List.{List, [], _∷_, _++_, map}
-use Prim.Native.Nat.{ℕ, suc, _+_, _*_, _≤_}
+use Prim.Native.Nat.{ℕ, suc, _+_, _*_, _/_, _≤_}
 use lib.Dec.{eqb, ltb}
 use lib.IntN.{ℤ}
 use lib.ListN.{length, getD}
@@ -95,38 +95,40 @@ pub record Fits (most : ℕ) (at : Emitted) : Type 0 where
 
 -- ---- what is put for one driver
 
--- a part of a clause by its code: below 2 it is no literal
-abbrev pub codeRun : ℕ → List Token
-codeRun code = cond (ltb code 2) [] (coded code ∷ [])
+-- a part of a clause, as it is wanted, by its code: twice its variable; below 2 it is no literal
+abbrev pub codeRun : Bool → ℕ → List Token
+codeRun wanted code = cond (ltb code 2) [] (wants (wanted, code / 2) ∷ [])
 
 -- the variable of a node (rule F5)
 abbrev pub nodeIs : ℕ → Bool → Literal
 nodeIs node wanted = (wanted, node + 1)
 
 -- what a driver adds, by its node and the code of its being late, beside a literal of the variable `own`
-abbrev pub shareRun : Share → ℕ → ℕ → ℕ → List Token
-shareRun (Forced c k) own node late = wants (nodeIs node (not c)) ∷ wants (k, own) ∷ ended ∷ []
-shareRun (Driver c) own node late = wants (nodeIs node c) ∷ []
-shareRun Late own node late = codeRun late
-shareRun (Control c) own node late =
-    cond (eqb late 1) [] (((wants (false, own) ∷ []) ++ codeRun late) ++ (wants (nodeIs node (not c)) ∷ ended ∷ []))
+abbrev pub shareRun : Share → Bool → Bool → ℕ → ℕ → ℕ → List Token
+shareRun Forced c k own node late = wants (nodeIs node (not c)) ∷ wants (k, own) ∷ ended ∷ []
+shareRun Driver c k own node late = wants (nodeIs node c) ∷ []
+shareRun Late c k own node late = codeRun true late
+shareRun Control c k own node late =
+    cond (eqb late 1) []
+    (((wants (false, own) ∷ []) ++ codeRun true late) ++ (wants (nodeIs node (not c)) ∷ ended ∷ []))
 
 -- what so many drivers add, by what was stored of them
-abbrev pub sharesRun : Share → ℕ → List ℕ → List ℕ → ℕ → List Token
-sharesRun share own nodes lates count =
-    concatMap (λ i. shareRun share own (getD nodes i 0) (getD lates i 0)) (upFrom 0 count)
+abbrev pub sharesRun : Share → Bool → Bool → ℕ → List ℕ → List ℕ → ℕ → List Token
+sharesRun share c k own nodes lates count =
+    concatMap (λ i. shareRun share c k own (getD nodes i 0) (getD lates i 0)) (upFrom 0 count)
 
--- the clause of a head and of what is late, by the codes, and whether something is late outright
+-- the clause of a negated head and of what is late, by the codes, and whether something is late outright
 abbrev pub lateRun : ℕ → ℕ → List ℕ → Bool → List Token
 lateRun head count lates some =
-    cond some [] ((codeRun head ++ concatMap (λ i. codeRun (getD lates i 0)) (upFrom 0 count)) ++ (ended ∷ []))
+    cond some []
+    ((codeRun false head ++ concatMap (λ i. codeRun true (getD lates i 0)) (upFrom 0 count)) ++ (ended ∷ []))
 
 -- ---- what is put for one gate
 
 -- a simple gate (rule F9): two literals a pin, then one clause over all pins
 abbrev pub simpleRun : Bool → Bool → ℕ → List ℕ → List ℕ → ℕ → List Token
 simpleRun c k node nodes lates count =
-    ((sharesRun (Forced c k) (node + 1) nodes lates count ++ sharesRun (Driver c) (node + 1) nodes lates count)
+    ((sharesRun Forced c k (node + 1) nodes lates count ++ sharesRun Driver c k (node + 1) nodes lates count)
     ++ (wants (nodeIs node (not k)) ∷ [])) ++ (ended ∷ [])
 
 -- a clause of three literals

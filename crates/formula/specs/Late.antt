@@ -190,9 +190,15 @@ pub record LateCode (l : Lent) (node t code : ℕ) : Type 0 where
   pub is : code ≡ partCode (lateIn l node t)
   pub small : code < codeBound
 
+-- the two lists that hold what is read have 64 places each
+pub record Long (nodes lates : List ℕ) : Type 0 where
+  pub nodes-long : length nodes ≡ 64
+  pub lates-long : length lates ≡ 64
+
 -- the entries were read: their nodes, the codes of their lateness, and whether some is late outright
 pub record Reads (file : List ℕ) (l : Lent) (side : Side) (first count t : ℕ) (nodes lates : List ℕ) (some : Bool) :
     Type 0 where
   pub nodes-are : take count nodes ≡ map (nodeAt file (l .shape) side) (upFrom first count)
   pub lates-are : take count lates ≡ map (λ e. partCode (lateAt file l side t e)) (upFrom first count)
   pub some-is : some ≡ any (λ e. isSure (lateAt file l side t e)) (upFrom first count)
+  pub long : Long nodes lates

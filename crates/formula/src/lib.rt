@@ -54,6 +54,7 @@ ghost use Rattle.formula.specs.Late.{
   outputsLate,
   wholeRun,
   Slices,
+  Long,
   Ready,
   Asking,
   Served,
@@ -105,12 +106,13 @@ pub enum Side {
 
 // What each driver of a gate adds, beside a variable of the gate's or the pair's own: the clause that its driver is
 // not at c or the gate is k; the literal that it is at c; the part that it is late; the clause that the pair is not,
-// or the driver is late, or not at c.
+// or the driver is late, or not at c. The variants hold no c and k, which are passed beside: so the compiler makes a
+// loop of its own for each share.
 pub enum Share {
-    Forced { c: bool, k: bool },
-    Driver(bool),
+    Forced,
+    Driver,
     Late,
-    Control(bool),
+    Control,
 }
 
 // ---- numbers, one after the other
@@ -146,15 +148,15 @@ fn put_node(formula: &mut [i32], at: Emitted, node: usize, wanted: bool) -> Emit
     put_literal(formula, at, node + 1, wanted)
 }
 
-// A part of a clause; a false part is left out.
-fn put_part(formula: &mut [i32], at: Emitted, code: usize) -> Emitted
+// A part of a clause, as it is wanted: twice its variable; a false part, which has none, is left out.
+fn put_part(formula: &mut [i32], at: Emitted, code: usize, wanted: bool) -> Emitted
     requires { ⌜ Fits 1 at × (code < codeBound) ⌝ }
-    ensures { λ r. ⌜ Emits 1 (codeRun code) (now (formula .entry)) at (now (formula .exit)) r ⌝ }
+    ensures { λ r. ⌜ Emits 1 (codeRun wanted code) (now (formula .entry)) at (now (formula .exit)) r ⌝ }
 {
     if code < 2 {
         return at;
     }
-    put_code(formula, at, code)
+    put_literal(formula, at, code / 2, wanted)
 }
 
 // The 0 that ends a clause.
@@ -179,16 +181,16 @@ fn widen(x: u16) -> usize
 }
 
 // A node that was stored.
-fn node_at(nodes: &[u16], i: usize) -> usize
-    requires { ⌜ i < length (now nodes) ⌝ }
+fn node_at(nodes: &[u16; 64], i: usize) -> usize
+    requires { ⌜ i < 64 ⌝ }
     ensures { λ r. ⌜ (r ≡ getD (now (nodes .entry)) i 0) × (r < 65536) ⌝ }
 {
     widen(nodes[i])
 }
 
 // What was stored of entry i.
-fn asked_at(nodes: &[u16], lates: &[u32], i: usize) -> Asked
-    requires { ⌜ (i < length (now nodes)) × (i < length (now lates)) ⌝ }
+fn asked_at(nodes: &[u16; 64], lates: &[u32; 64], i: usize) -> Asked
+    requires { ⌜ i < 64 ⌝ }
     ensures { λ r. ⌜
         (r .node ≡ getD (now (nodes .entry)) i 0) × (r .late ≡ getD (now (lates .entry)) i 0) × (r .node < 65536)
         × (r .late < codeBound)
@@ -203,6 +205,8 @@ fn asked_at(nodes: &[u16], lates: &[u32], i: usize) -> Asked
 // What one driver adds. A control clause is left out where its driver is late outright.
 fn put_share(
     share: Share,
+    c: bool,
+    k: bool,
     own: usize,
     node: usize,
     late: usize,
@@ -211,27 +215,27 @@ fn put_share(
 ) -> Emitted
     requires { ⌜ (own < variableBound) × (node < 65536) × (late < codeBound) × Fits shareMost at ⌝ }
     ensures { λ r. ⌜
-        Emits shareMost (shareRun share own node late) (now (formula .entry)) at (now (formula .exit)) r
+        Emits shareMost (shareRun share c k own node late) (now (formula .entry)) at (now (formula .exit)) r
         ⌝ }
 {
     match share {
-        Share::Forced { c, k } => {
+        Share::Forced => {
             let driver = put_node(formula, at, node, !c);
             let gate = put_literal(formula, driver, own, k);
             return put_end(formula, gate);
         }
-        Share::Driver(c) => {
+        Share::Driver => {
             return put_node(formula, at, node, c);
         }
         Share::Late => {
-            return put_part(formula, at, late);
+            return put_part(formula, at, late, true);
         }
-        Share::Control(c) => {
+        Share::Control => {
             if late == 1 {
                 return at;
             }
             let negated = put_literal(formula, at, own, false);
-            let part = put_part(formula, negated, late);
+            let part = put_part(formula, negated, late, true);
             let driver = put_node(formula, part, node, !c);
             return put_end(formula, driver);
         }
@@ -240,20 +244,19 @@ fn put_share(
 
 // What each of `count` drivers adds: the one loop over a gate's pins, and over the outputs.
 fn put_shares(
-    nodes: &[u16],
-    lates: &[u32],
+    nodes: &[u16; 64],
+    lates: &[u32; 64],
     count: usize,
     share: Share,
+    c: bool,
+    k: bool,
     own: usize,
     formula: &mut [i32],
     at: Emitted,
 ) -> Emitted
-    requires { ⌜
-        (count ≤ length (now nodes)) × (count ≤ length (now lates)) × (count ≤ 64) × (own < variableBound)
-        × Fits (count * shareMost) at
-        ⌝ }
+    requires { ⌜ (count ≤ 64) × (own < variableBound) × Fits (count * shareMost) at ⌝ }
     ensures { λ r. ⌜
-        Emits (count * shareMost) (sharesRun share own (now (nodes .entry)) (now (lates .entry)) count)
+        Emits (count * shareMost) (sharesRun share c k own (now (nodes .entry)) (now (lates .entry)) count)
         (now (formula .entry)) at (now (formula .exit)) r
         ⌝ }
 {
@@ -261,7 +264,7 @@ fn put_shares(
     let mut i = 0;
     while i < count {
         let driver = asked_at(nodes, lates, i);
-        to = put_share(share, own, driver.node, driver.late, formula, to);
+        to = put_share(share, c, k, own, driver.node, driver.late, formula, to);
         i += 1;
     }
     to
@@ -298,6 +301,14 @@ fn place_of(table: &[u32], starts: &[usize], node: usize, t: usize) -> usize
     pairs::place(table, table.len() / 2, starts, node, t)
 }
 
+// The variable of pair k (rule F5).
+fn pair_variable(shape: Shape, k: usize) -> usize
+    requires { ⌜ (shape .inputs + shape .gates ≤ 512) × (k < 65536) ⌝ }
+    ensures { λ r. ⌜ r ≡ shape .inputs + shape .gates + k + 1 ⌝ }
+{
+    shape.inputs + shape.gates + k + 1
+}
+
 // That a node is late at t, as a code: 1 if true outright, 0 if false outright, else the code of its pair's literal.
 fn late_code(
     shape: Shape,
@@ -325,7 +336,7 @@ fn late_code(
     if top < t {
         return 0;
     }
-    (shape.inputs + shape.gates + place_of(table, starts, node, t) + 1) * 2
+    pair_variable(shape, place_of(table, starts, node, t)) * 2
 }
 
 // What an entry asks for: a pin its driver, at t less its delay; an output itself, at t.
@@ -356,10 +367,8 @@ fn moment_at(file: &[u8], shape: Shape, side: Side, entry: usize, t: usize) -> M
 }
 
 // What is known of entry i is stored.
-fn store(nodes: &mut [u16], lates: &mut [u32], i: usize, node: usize, late: usize)
-    requires { ⌜
-        (i < length (now nodes)) × (i < length (now lates)) × (node < 65536) × (late < codeBound)
-        ⌝ }
+fn store(nodes: &mut [u16; 64], lates: &mut [u32; 64], i: usize, node: usize, late: usize)
+    requires { ⌜ (i < 64) × (node < 65536) × (late < codeBound) ⌝ }
     ensures { λ _. ⌜
         (now (nodes .exit) ≡ set (now (nodes .entry)) i node) × (now (lates .exit) ≡ set (now (lates .entry)) i late)
         ⌝ }
@@ -379,13 +388,13 @@ fn read_asked(
     first: usize,
     count: usize,
     t: usize,
-    nodes: &mut [u16],
-    lates: &mut [u32],
+    nodes: &mut [u16; 64],
+    lates: &mut [u32; 64],
 ) -> bool
     requires { ⌜
         Tables (now file) shape × Ready (lent shape (now tops) (now table)) (now starts)
         × Served (now file) (lent shape (now tops) (now table)) side first count t
-        × (count ≤ length (now nodes)) × (count ≤ length (now lates)) × (first + count ≤ 2048)
+        × (count ≤ 64) × (first + count ≤ 2048) × Long (now nodes) (now lates)
         ⌝ }
     ensures { λ r. ⌜
         Reads (now (file .entry)) (lent shape (now (tops .entry)) (now (table .entry))) side first count t
@@ -404,21 +413,18 @@ fn read_asked(
     sure
 }
 
-// A head, or something late, of what was read, where `head` is a literal's code or 0 for none; left out where something
-// is late outright.
+// Not the head, or something late, of what was read, where `head` is twice a variable or 0 for none; left out where
+// something is late outright.
 fn late_clause(
     head: usize,
-    nodes: &[u16],
-    lates: &[u32],
+    nodes: &[u16; 64],
+    lates: &[u32; 64],
     count: usize,
     sure: bool,
     formula: &mut [i32],
     at: Emitted,
 ) -> Emitted
-    requires { ⌜
-        (head < codeBound) × (count ≤ length (now nodes)) × (count ≤ length (now lates)) × (count ≤ 64)
-        × Fits (count * shareMost + 2) at
-        ⌝ }
+    requires { ⌜ (head < codeBound) × (count ≤ 64) × Fits (count * shareMost + 2) at ⌝ }
     ensures { λ r. ⌜
         Emits (count * shareMost + 2) (lateRun head count (now (lates .entry)) sure) (now (formula .entry)) at
         (now (formula .exit)) r
@@ -427,8 +433,18 @@ fn late_clause(
     if sure {
         return at;
     }
-    let first = put_part(formula, at, head);
-    let parts = put_shares(nodes, lates, count, Share::Late, 0, formula, first);
+    let first = put_part(formula, at, head, false);
+    let parts = put_shares(
+        nodes,
+        lates,
+        count,
+        Share::Late,
+        false,
+        false,
+        0,
+        formula,
+        first,
+    );
     put_end(formula, parts)
 }
 
@@ -436,7 +452,7 @@ fn late_clause(
 
 // A clause of a gate f, one of whose pins chooses and another is chosen: pin x is a, or pin y is b, or f is c.
 fn choice_clause(
-    nodes: &[u16],
+    nodes: &[u16; 64],
     x: usize,
     a: bool,
     y: usize,
@@ -446,7 +462,7 @@ fn choice_clause(
     formula: &mut [i32],
     at: Emitted,
 ) -> Emitted
-    requires { ⌜ (x < length (now nodes)) × (y < length (now nodes)) × (f < 65536) × Fits 4 at ⌝ }
+    requires { ⌜ (x < 64) × (y < 64) × (f < 65536) × Fits 4 at ⌝ }
     ensures { λ r. ⌜
         Emits 4 (three (nodeIs (getD (now (nodes .entry)) x 0) a) (nodeIs (getD (now (nodes .entry)) y 0) b)
         (nodeIs f c)) (now (formula .entry)) at (now (formula .exit)) r
@@ -462,7 +478,7 @@ fn choice_clause(
 // s, or a is not d, or f is not e; then the same two of not s, with b for a and g for e. A multiplexer chooses
 // between two pins, a parity gate between a pin and its opposite.
 fn choice_clauses(
-    nodes: &[u16],
+    nodes: &[u16; 64],
     last: usize,
     d: bool,
     e: bool,
@@ -471,7 +487,7 @@ fn choice_clauses(
     formula: &mut [i32],
     at: Emitted,
 ) -> Emitted
-    requires { ⌜ (1 < length (now nodes)) × (last < length (now nodes)) × (f < 65536) × Fits 16 at ⌝ }
+    requires { ⌜ (last < 64) × (f < 65536) × Fits 16 at ⌝ }
     ensures { λ r. ⌜
         Emits 16 (choiceRun (getD (now (nodes .entry)) 0 0) (getD (now (nodes .entry)) 1 0)
         (getD (now (nodes .entry)) last 0) d e g f) (now (formula .entry)) at (now (formula .exit)) r
@@ -485,8 +501,8 @@ fn choice_clauses(
 
 // A simple gate: a clause of two literals for each pin, then one over all pins (rule F9).
 fn simple_clauses(
-    nodes: &[u16],
-    lates: &[u32],
+    nodes: &[u16; 64],
+    lates: &[u32; 64],
     count: usize,
     c: bool,
     k: bool,
@@ -494,26 +510,25 @@ fn simple_clauses(
     formula: &mut [i32],
     at: Emitted,
 ) -> Emitted
-    requires { ⌜
-        (count ≤ length (now nodes)) × (count ≤ length (now lates)) × (count ≤ 8) × (node < 65536)
-        × Fits gateMost at
-        ⌝ }
+    requires { ⌜ (count ≤ 8) × (node < 65536) × Fits gateMost at ⌝ }
     ensures { λ r. ⌜
         Emits gateMost (simpleRun c k node (now (nodes .entry)) (now (lates .entry)) count) (now (formula .entry)) at
         (now (formula .exit)) r
         ⌝ }
 {
     let own = node + 1;
-    let forced = put_shares(
+    let forced = put_shares(nodes, lates, count, Share::Forced, c, k, own, formula, at);
+    let drivers = put_shares(
         nodes,
         lates,
         count,
-        Share::Forced { c: c, k: k },
+        Share::Driver,
+        c,
+        k,
         own,
         formula,
-        at,
+        forced,
     );
-    let drivers = put_shares(nodes, lates, count, Share::Driver(c), own, formula, forced);
     let gate = put_node(formula, drivers, node, !k);
     put_end(formula, gate)
 }
@@ -527,21 +542,23 @@ fn gate_clauses(
     starts: &[usize],
     gate: Gate,
     node: usize,
+    nodes: &mut [u16; 64],
+    lates: &mut [u32; 64],
     formula: &mut [i32],
     at: Emitted,
 ) -> Emitted
     requires { ⌜
         Tables (now file) shape × Ready (lent shape (now tops) (now table)) (now starts)
         × Gated (now file) (lent shape (now tops) (now table)) gate 0 × (node < 65536) × Fits gateMost at
+        × Long (now nodes) (now lates)
         ⌝ }
     ensures { λ r. ⌜
         Emits gateMost (tokensOf (gateClauses nodeVariable (gate .kind)
         (pinsFrom (now (file .entry)) shape (gate .first) (gate .count)) node)) (now (formula .entry)) at
         (now (formula .exit)) r
+        × Long (now (nodes .exit)) (now (lates .exit))
         ⌝ }
 {
-    let mut nodes = [0u16; 8];
-    let mut lates = [0u32; 8];
     let first = gate.first;
     let count = gate.count;
     let kind = gate.kind;
@@ -555,18 +572,18 @@ fn gate_clauses(
         first,
         count,
         0,
-        &mut nodes,
-        &mut lates,
+        nodes,
+        lates,
     );
     match kind {
         Kind::Simple { c, k } => {
-            return simple_clauses(&nodes, &lates, count, c, k, node, formula, at);
+            return simple_clauses(nodes, lates, count, c, k, node, formula, at);
         }
         Kind::Parity(equal) => {
-            return choice_clauses(&nodes, 1, true, equal, !equal, node, formula, at);
+            return choice_clauses(nodes, 1, true, equal, !equal, node, formula, at);
         }
         Kind::Mux => {
-            return choice_clauses(&nodes, 2, false, true, true, node, formula, at);
+            return choice_clauses(nodes, 2, false, true, true, node, formula, at);
         }
     }
 }
@@ -578,15 +595,19 @@ fn all_gates(
     tops: &[u32],
     table: &[u32],
     starts: &[usize],
+    nodes: &mut [u16; 64],
+    lates: &mut [u32; 64],
     formula: &mut [i32],
     at: Emitted,
 ) -> Emitted
     requires { ⌜
         Holds (now file) shape × Ready (lent shape (now tops) (now table)) (now starts) × Fits gatesMost at
+        × Long (now nodes) (now lates)
         ⌝ }
     ensures { λ r. ⌜
         Emits gatesMost (concatMap (gateRun (now (file .entry)) shape) (upFrom 0 (shape .gates)))
         (now (formula .entry)) at (now (formula .exit)) r
+        × Long (now (nodes .exit)) (now (lates .exit))
         ⌝ }
 {
     let mut to = at;
@@ -601,6 +622,8 @@ fn all_gates(
             starts,
             gate,
             shape.inputs + i,
+            nodes,
+            lates,
             formula,
             to,
         );
@@ -621,22 +644,23 @@ fn pair_clauses(
     gate: Gate,
     pair: usize,
     t: usize,
+    nodes: &mut [u16; 64],
+    lates: &mut [u32; 64],
     formula: &mut [i32],
     at: Emitted,
 ) -> Emitted
     requires { ⌜
         Tables (now file) shape × Ready (lent shape (now tops) (now table)) (now starts)
         × Gated (now file) (lent shape (now tops) (now table)) gate t × (0 < pair) × (pair < variableBound)
-        × Fits gateMost at
+        × Fits gateMost at × Long (now nodes) (now lates)
         ⌝ }
     ensures { λ r. ⌜
         Emits gateMost (clausesIn (lent shape (now (tops .entry)) (now (table .entry))) pair (gate .kind)
         (pinsFrom (now (file .entry)) shape (gate .first) (gate .count)) t) (now (formula .entry)) at
         (now (formula .exit)) r
+        × Long (now (nodes .exit)) (now (lates .exit))
         ⌝ }
 {
-    let mut nodes = [0u16; 8];
-    let mut lates = [0u32; 8];
     let first = gate.first;
     let count = gate.count;
     let sure = read_asked(
@@ -649,18 +673,20 @@ fn pair_clauses(
         first,
         count,
         t,
-        &mut nodes,
-        &mut lates,
+        nodes,
+        lates,
     );
-    let late = late_clause(pair * 2 + 1, &nodes, &lates, count, sure, formula, at);
+    let late = late_clause(pair * 2, nodes, lates, count, sure, formula, at);
     let kind = gate.kind;
     match kind {
         Kind::Simple { c, k: _ } => {
             return put_shares(
-                &nodes,
-                &lates,
+                nodes,
+                lates,
                 count,
-                Share::Control(c),
+                Share::Control,
+                c,
+                false,
                 pair,
                 formula,
                 late,
@@ -690,14 +716,6 @@ fn pair_at(table: &[u32], k: usize) -> Moment
     }
 }
 
-// The variable of pair k (rule F5).
-fn pair_variable(shape: Shape, k: usize) -> usize
-    requires { ⌜ (shape .inputs + shape .gates ≤ 512) × (k < 65536) ⌝ }
-    ensures { λ r. ⌜ r ≡ shape .inputs + shape .gates + k + 1 ⌝ }
-{
-    shape.inputs + shape.gates + k + 1
-}
-
 // Each pair, rising variable.
 fn all_pairs(
     file: &[u8],
@@ -705,16 +723,20 @@ fn all_pairs(
     tops: &[u32],
     table: &[u32],
     starts: &[usize],
+    nodes: &mut [u16; 64],
+    lates: &mut [u32; 64],
     formula: &mut [i32],
     at: Emitted,
 ) -> Emitted
     requires { ⌜
         Holds (now file) shape × Ready (lent shape (now tops) (now table)) (now starts)
         × AllStand (now file) (lent shape (now tops) (now table)) × Fits pairsMost at
+        × Long (now nodes) (now lates)
         ⌝ }
     ensures { λ r. ⌜
         Emits pairsMost (concatMap (pairRun (now (file .entry)) (lent shape (now (tops .entry)) (now (table .entry))))
         (upFrom 0 (length (now (table .entry)) / 2))) (now (formula .entry)) at (now (formula .exit)) r
+        × Long (now (nodes .exit)) (now (lates .exit))
         ⌝ }
 {
     let mut to = at;
@@ -731,6 +753,8 @@ fn all_pairs(
             gate,
             pair_variable(shape, k),
             pair.time,
+            nodes,
+            lates,
             formula,
             to,
         );
@@ -749,20 +773,21 @@ fn output_clause(
     table: &[u32],
     starts: &[usize],
     target: usize,
+    nodes: &mut [u16; 64],
+    lates: &mut [u32; 64],
     formula: &mut [i32],
     at: Emitted,
 ) -> Emitted
     requires { ⌜
         Holds (now file) shape × Ready (lent shape (now tops) (now table)) (now starts)
         × Served (now file) (lent shape (now tops) (now table)) Outputs 0 (shape .outputs) target × Fits outputsMost at
+        × Long (now nodes) (now lates)
         ⌝ }
     ensures { λ r. ⌜
         Emits outputsMost (outputsLate (now (file .entry)) (lent shape (now (tops .entry)) (now (table .entry))) target)
         (now (formula .entry)) at (now (formula .exit)) r
         ⌝ }
 {
-    let mut nodes = [0u16; 64];
-    let mut lates = [0u32; 64];
     let count = shape.outputs;
     let sure = read_asked(
         file,
@@ -774,10 +799,10 @@ fn output_clause(
         0,
         count,
         target,
-        &mut nodes,
-        &mut lates,
+        nodes,
+        lates,
     );
-    late_clause(0, &nodes, &lates, count, sure, formula, at)
+    late_clause(0, nodes, lates, count, sure, formula, at)
 }
 
 // 1, 2 and 3 in order, from the slice's first place on.
@@ -811,9 +836,42 @@ fn emit(
         shape.inputs + shape.gates,
         &mut starts,
     );
-    let gates = all_gates(file, shape, tops, table, &starts, formula, start);
-    let pairs = all_pairs(file, shape, tops, table, &starts, formula, gates);
-    output_clause(file, shape, tops, table, &starts, target, formula, pairs)
+    let mut nodes = [0u16; 64];
+    let mut lates = [0u32; 64];
+    let gates = all_gates(
+        file,
+        shape,
+        tops,
+        table,
+        &starts,
+        &mut nodes,
+        &mut lates,
+        formula,
+        start,
+    );
+    let pairs = all_pairs(
+        file,
+        shape,
+        tops,
+        table,
+        &starts,
+        &mut nodes,
+        &mut lates,
+        formula,
+        gates,
+    );
+    output_clause(
+        file,
+        shape,
+        tops,
+        table,
+        &starts,
+        target,
+        &mut nodes,
+        &mut lates,
+        formula,
+        pairs,
+    )
 }
 
 // The formula of an accepted file whose tops and pairs are known; 9 where it has no room. The arrivals are the inputs'

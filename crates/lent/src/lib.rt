@@ -107,7 +107,7 @@ pub fn zero_i32(slice: &mut [i32])
     zero_rest_i32(slice, 0);
 }
 
-// One slice to the front of another; what stands behind stays.
+// One slice of bytes to the front of another; what stands behind stays.
 pub fn copy_u8(from: &[u8], slice: &mut [u8])
     requires { ⌜ length (now from) ≤ length (now slice) ⌝ }
     ensures { λ _. ⌜ Copied (now (from .entry)) (now (slice .entry)) (now (slice .exit)) ⌝ }
@@ -119,7 +119,7 @@ pub fn copy_u8(from: &[u8], slice: &mut [u8])
     }
 }
 
-// The same for 32-bit numbers.
+// One slice of 32-bit numbers to the front of another.
 pub fn copy_u32(from: &[u32], slice: &mut [u32])
     requires { ⌜ length (now from) ≤ length (now slice) ⌝ }
     ensures { λ _. ⌜ Copied (now (from .entry)) (now (slice .entry)) (now (slice .exit)) ⌝ }

@@ -1,12 +1,14 @@
 -- A call on any bytes and any arrivals: what is accepted leaves it to the call's own rows over its circuit, and what is
--- refused ends it. Then a list that must have so many entries, none over a bound (listRows). Assumes nothing.
-use mathlib.Core.Path.{_≡_, sym, ap, _∙_}
+-- refused ends it; with zeros for arrivals, a file is answered as by itself. And a list that must have so many entries,
+-- none over a bound (listRows). Assumes nothing.
+use mathlib.Core.Path.{_≡_, refl, sym, ap, _∙_}
 use mathlib.Core.Bool.{not}
 use mathlib.Core.List.{List, [], _∷_, _++_}
-use Prim.Native.Nat.{ℕ, _≤_}
+use Prim.Native.Nat.{ℕ, zero, suc, _≤_}
+use native.Mathlib.Omega.{arith}
 use lib.Dec.{ltb, eqb}
-use lib.ListN.{length}
-use borrow.Author.Tests.{ltb-false, eqb-true}
+use lib.ListN.{length, replicate, length-replicate}
+use borrow.Author.Tests.{ltb-false, eqb-true, eq-eqb, le-ltb}
 use Rattle.refusal.specs.declared.Refusal.{Refusal}
 use Rattle.refusal.specs.declared.Refusal.the-variants.{Arrival}
 use Rattle.refusal.specs.declared.Checked.{Checked}
@@ -14,6 +16,7 @@ use Rattle.refusal.specs.declared.Checked.the-variants.{Passes, Refused as Fail
 use Rattle.refusal.specs.Rows.{Row, checked, unlessRefused}
 use Rattle.refusal.proofs.Rows.{refused-first, passed-first, first-passes, rest-passes, passed-by}
 use Rattle.netlist.specs.declared.Shape.{Shape}
+use Rattle.netlist.specs.declared.Opened.{Opened}
 use Rattle.netlist.specs.declared.Opened.the-variants.{Accepted, Refused}
 use Rattle.netlist.specs.Netlist.{Circuit}
 use Rattle.netlist.specs.File.{shapeOf, circuitAt, circuitOf}
@@ -30,7 +33,7 @@ use Rattle.netlist.specs.Open.{
   callOver,
 }
 use Rattle.netlist.specs.Holds.{Arrived, Given}
-use Rattle.netlist.proofs.FirstWrong.{within-bound}
+use Rattle.netlist.proofs.FirstWrong.{first-none, first-later, within-bound}
 use Rattle.netlist.proofs.TableOrder.{
   answer,
   answer-accepts,
@@ -78,6 +81,12 @@ module _ (file arrivals : List ℕ) where
       checked (circuitRows file arrivals) ≡ Fails refusal
   unfolding openCircuitOf
   rejected-both e = answer-refuses (shapeOf file) (circuitRows file arrivals) e
+
+  -- what passes them is accepted
+  pub passed-both : checked (circuitRows file arrivals) ≡ Passes →
+      openCircuitOf file arrivals ≡ Accepted (shapeOf file)
+  unfolding openCircuitOf
+  passed-both e = ap (λ (c : Checked). unlessRefused c Refused (Accepted (shapeOf file))) e
 
   -- the file by itself is accepted
   pub accepted-file : {shape : Shape} → openCircuitOf file arrivals ≡ Accepted shape → openOf file ≡ Accepted shape
@@ -157,3 +166,34 @@ module _ (file arrivals : List ℕ) where
           callOver file arrivals rows refused passed ≡ refused refusal
       call-rejected e =
           ap (λ (c : Checked). unlessRefused c refused (passed (circuitOf file arrivals))) (rows-rejected e)
+
+-- ---- all inputs at 0
+
+-- as many zeros as there are inputs pass row 16
+zeros-right : (most n : ℕ) → firstWrong (ltb most) (replicate n 0) ≡ n
+zeros-right most zero = first-none (ltb most)
+zeros-right most (suc n) =
+    first-later (ltb most) 0 (replicate n 0) (le-ltb most 0 (omega arith)) ∙ ap suc (zeros-right most n)
+
+zeros-pass : (n : ℕ) → checked (arrivalRows n (replicate n 0)) ≡ Passes
+unfolding arrivalRows
+zeros-pass n =
+    let long = length-replicate {A = ℕ} n 0 in
+    rw (zeros-right latestArrival n, long, eq-eqb n n refl, le-ltb n n (omega arith)) refl
+
+-- so that with them a file is answered as it is without
+pub zero-opens : (file : List ℕ) → openCircuitOf file (replicate (shapeOf file .inputs) 0) ≡ openOf file
+zero-opens file = go (openOf file) refl
+  where
+    arrivals : List ℕ
+    arrivals = replicate (shapeOf file .inputs) 0
+
+    go : (o : Opened) → openOf file ≡ o → openCircuitOf file arrivals ≡ o
+    go (Refused refusal) e = sym (by-file file arrivals e)
+    go (Accepted shape) e =
+        let own = accepted-rows file e .1 in
+        sym
+        (by-arrivals file arrivals e
+        (sym
+        (ap (λ (s : Shape). checked (arrivalRows (s .inputs) arrivals)) (sym own)
+        ∙ zeros-pass (shapeOf file .inputs))))

@@ -441,11 +441,11 @@ pub fn open_circuit(file: &[u8], arrivals: &[u32]) -> Opened
     let opened = open(file);
     match opened {
         Opened::Refused(refusal) => Opened::Refused(refusal),
-        Opened::Accepted(shape) => {
-            let arrived = check_arrivals(arrivals, shape.inputs);
+        Opened::Accepted(found) => {
+            let arrived = check_arrivals(arrivals, found.inputs);
             match arrived {
                 Checked::Refused(refusal) => Opened::Refused(refusal),
-                Checked::Passes => Opened::Accepted(shape),
+                Checked::Passes => Opened::Accepted(found),
             }
         }
     }

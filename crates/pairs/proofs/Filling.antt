@@ -1,7 +1,7 @@
 -- The loop that fills the table: its end holds the pairs of the least set from the key (f, b) on, so that at the end it
 -- holds all, and where one more is asked for and no room is left there are too many. Laws: filling-starts,
--- filling-top, filling-sorted, filling-asks, filling-asked, filling-down, filling-ends, filling-more, filling-full.
--- Assumes nothing.
+-- filling-top, filling-sorted, filling-ended, filling-asks, filling-asked, filling-down, filling-ends, filling-more,
+-- filling-full. Assumes nothing.
 use mathlib.Core.Path.{_≡_, refl, sym, ap, ap₂, subst, _∙_}
 use mathlib.Core.Logic.{_⊎_, inl, inr}
 use mathlib.Core.List.{
@@ -14,22 +14,22 @@ use mathlib.Core.List.{
   List·Memᴰ·not-nil,
   List·Memᴰ·cases-cons,
 }
-use Prim.Native.Nat.{ℕ, _+_, _*_, _-_, _/_, _<_, _≤_}
+use Prim.Native.Nat.{ℕ, _+_, _*_, _-_, _/_, _<_, _≤_, min}
 use native.Mathlib.Omega.{arith}
 use native.Mathlib.Decide.{decLe}
-use lib.ListN.{length, getD, take, drop, drop-of-length-le}
+use lib.ListN.{length, getD, set, take, drop, drop-of-length-le}
 use Rattle.netlist.specs.declared.Shape.{Shape}
 use Rattle.netlist.specs.Netlist.{Netlist}
 use Rattle.netlist.specs.File.{netlistAt, circuitAt}
 use Rattle.netlist.specs.Holds.{Given}
+use Rattle.settle.specs.Steps.{latest}
 use Rattle.netlist.proofs.Entries.{net-inputs}
 use Rattle.netlist.proofs.Valid.{valid-gates, valid-outputs}
 use Rattle.settle.specs.Settling.{topOf}
-use Rattle.settle.specs.Steps.{latest}
 use Rattle.settle.proofs.Gates.{tops-early}
 use Rattle.pairs.specs.Pairs.{flatPairs, pairsFor, pairList}
 use Rattle.pairs.specs.Rising.{Before, Rising}
-use Rattle.pairs.specs.Table.{pairsIn, keyOf, Sorted, Within, AsksAll}
+use Rattle.pairs.specs.Table.{pairsIn, keyOf, Sorted, Within, AsksAll, Ended}
 use Rattle.pairs.specs.Promise.{Tops, pairsAt}
 use Rattle.pairs.proofs.Least.{is-pair}
 use Rattle.pairs.proofs.Rising.{before-irreflexive, before-transitive, above-of, pairs-rising}
@@ -37,13 +37,15 @@ use Rattle.pairs.proofs.Unique.{rising-short, pairs-unique, asked-pairs
 use Rattle.pairs.proofs.Flat.{part, pairs-flat}
 use Rattle.pairs.proofs.Search.{of-key, rising-sorted}
 use Rattle.pairs.proofs.Topping.{top-read}
+use Rattle.pairs.proofs.Ending.{ended-starts, ended-more, ended-down}
 use Rattle.pairs.proofs.Step.{AskedAt, facts-of, stepped, asked-of}
 
 -- the pairs in the table's end
 abbrev pub foundIn : List ℕ → ℕ → List (ℕ × ℕ)
 foundIn table at = pairsIn (take (length table - at * 2) (drop (at * 2) table))
 
-pub record Filling (file : List ℕ) (shape : Shape) (arrivals : List ℕ) (target : ℕ) (table₀ table : List ℕ) (at f b : ℕ) : Type 0 where
+pub record Filling (file : List ℕ) (shape : Shape) (arrivals : List ℕ) (target : ℕ) (table₀ table ends : List ℕ) (at f b : ℕ) :
+    Type 0 where
   pub done : List (ℕ × ℕ)
   pub len : length table ≡ length table₀
   pub even : length table₀ / 2 * 2 ≡ length table₀
@@ -56,6 +58,7 @@ pub record Filling (file : List ℕ) (shape : Shape) (arrivals : List ℕ) (targ
   pub sound : (x : ℕ × ℕ) → List·Memᴰ x done → AskedAt file shape arrivals target (x .0) (x .1)
   pub low : (x : ℕ × ℕ) → List·Memᴰ x done → keyOf (f, b) ≤ keyOf x
   pub full : (n s : ℕ) → AskedAt file shape arrivals target n s → keyOf (f, b) ≤ keyOf (n, s) → List·Memᴰ (n, s) done
+  pub ended : Ended done shape ends f
 
 module _ {file : List ℕ} {shape : Shape} {arrivals : List ℕ} (given : Given file shape arrivals) (target : ℕ) where
   abbrev net : Netlist
@@ -69,15 +72,16 @@ module _ {file : List ℕ} {shape : Shape} {arrivals : List ℕ} (given : Given 
 
   facts : (n s : ℕ) → A n s →
       (shape .inputs ≤ n) × (n < shape .inputs + shape .gates) × (0 < s) × (s ≤ top n) × (s ≤ latest)
+      × (s ≤ target)
   facts = facts-of given target
 
   small : (n : ℕ) → top n ≤ latest
   small = tops-early given
 
-  pub filling-starts : (table : List ℕ) → length table / 2 * 2 ≡ length table →
-      Filling file shape arrivals target table table (length table / 2) (shape .inputs + shape .gates) 0
+  pub filling-starts : (table ends : List ℕ) → length table / 2 * 2 ≡ length table →
+      Filling file shape arrivals target table table ends (length table / 2) (shape .inputs + shape .gates) 0
   unfolding flatPairs
-  filling-starts table e =
+  filling-starts table ends e =
       record {
         done = [];
         len = refl;
@@ -91,14 +95,15 @@ module _ {file : List ℕ} {shape : Shape} {arrivals : List ℕ} (given : Given 
         sound = λ x m. absurd (List·Memᴰ·not-nil m);
         low = λ x m. absurd (List·Memᴰ·not-nil m);
         full = λ n s a h. absurd (omega (arith, facts n s a .1, facts n s a .4));
+        ended = ended-starts shape ends;
       }
 
   -- the pairs in the table's end are those found
-  seen : {table₀ table : List ℕ} {at f b : ℕ} (w : Filling file shape arrivals target table₀ table at f b) →
+  seen : {table₀ table ends : List ℕ} {at f b : ℕ} (w : Filling file shape arrivals target table₀ table ends at f b) →
       foundIn table at ≡ w .done
   seen {table = table} {at = at} w = ap pairsIn (part table (at * 2) ∙ w .is) ∙ pairs-flat (w .done)
 
-  module _ {table₀ table : List ℕ} {at f b : ℕ} (w : Filling file shape arrivals target table₀ table at f b) where
+  module _ {table₀ table ends : List ℕ} {at f b : ℕ} (w : Filling file shape arrivals target table₀ table ends at f b) where
     -- the top of the node below, as it is read, is small
     pub filling-top : {tops : List ℕ} → shape .inputs < f → Tops file shape arrivals tops → (x : ℕ) → x ≡ getD tops (f - 1) 0 →
         x ≤ latest
@@ -109,8 +114,11 @@ module _ {file : List ℕ} {shape : Shape} {arrivals : List ℕ} (given : Given 
         rw (seen w)
         (rising-sorted (w .done) (w .rising) (λ x m. omega (arith, facts (x .0) (x .1) (w .sound x m) .4)))
 
-    -- what asks for f from 1 to its top, where the pairs are found from there on, is what is asked of f
-    pub filling-asks : (x : ℕ) → x ≡ top f → (t : ℕ) →
+    pub filling-ended : Ended (foundIn table at) shape ends f
+    filling-ended = rw (seen w) (w .ended)
+
+    -- what asks for f from 1 to a top, where the pairs are found from there on, is what is asked of f
+    pub filling-asks : (x : ℕ) → x ≤ top f → (t : ℕ) →
         Within x (AsksAll (foundIn table at) file shape target f) t → A f t × (t < x + 1)
     filling-asks x e t u = (
       asked-of given target (w .done) f t (rw (seen w) at (u .has)) (w .sound)
@@ -143,11 +151,12 @@ module _ {file : List ℕ} {shape : Shape} {arrivals : List ℕ} (given : Given 
               let e : n ≡ f = omega (arith, facts n s a .4, small f, w .bound) in
               absurd (none s (subst (λ (x : ℕ). A x s) e a) (omega arith))
 
-      -- on to the node below, whose top is x
-      pub filling-down : {tops : List ℕ} → shape .inputs < f → Tops file shape arrivals tops → (x : ℕ) →
-          x ≡ getD tops (f - 1) 0 → Filling file shape arrivals target table₀ table at (f - 1) (x + 1)
-      filling-down h tops x q =
-          let e = top-read given (f - 1) x tops (omega (arith, w .nodes)) q .0 in
+      -- on to the node below, of which nothing is asked for above x, and before whose pairs v stand
+      pub filling-down : {tops : List ℕ} → shape .inputs < f → Tops file shape arrivals tops → (y x v : ℕ) →
+          y ≡ getD tops (f - 1) 0 → x ≡ min y target → f - shape .inputs < length ends → v ≡ length (w .done) →
+          Filling file shape arrivals target table₀ table (set ends (f - shape .inputs) v) at (f - 1) (x + 1)
+      filling-down h tops y x v q i room n =
+          let e = top-read given (f - 1) y tops (omega (arith, w .nodes)) q .0 in
           record {
             done = w .done;
             len = w .len;
@@ -161,15 +170,16 @@ module _ {file : List ℕ} {shape : Shape} {arrivals : List ℕ} (given : Given 
             sound = w .sound;
             low = λ y m. omega (arith, w .low y m, small (f - 1));
             full = λ n s a k. more n s a (omega arith) (decLe f n);
+            ended = ended-down (w .ended) v n h room (λ z m. omega (arith, w .low z m));
           }
         where
-          more : (n s : ℕ) → A n s → keyOf (f - 1, top (f - 1) + 1) ≤ keyOf (n, s) → Dec (f ≤ n) →
+          more : (n s : ℕ) → A n s → keyOf (f - 1, min (top (f - 1)) target + 1) ≤ keyOf (n, s) → Dec (f ≤ n) →
               List·Memᴰ (n, s) (w .done)
           more n s a k (yes l) = from-here n s a l
           more n s a k (no l) =
               let q : n ≡ f - 1 = omega (arith, facts n s a .4) in
               let r : top n ≡ top (f - 1) = ap top q in
-              absurd (omega (arith, facts n s a .3))
+              absurd (omega (arith, facts n s a .3, facts n s a .5))
 
       -- or all are found
       pub filling-ends : f ≤ shape .inputs →
@@ -205,7 +215,7 @@ module _ {file : List ℕ} {shape : Shape} {arrivals : List ℕ} (given : Given 
       -- one more pair
       pub filling-more : ((s : ℕ) → A f s → s < b → s ≤ t) → (table′ : List ℕ) → 0 < at →
           length table′ ≡ length table → drop ((at - 1) * 2) table′ ≡ f ∷ t ∷ drop ((at - 1) * 2 + 2) table →
-          Filling file shape arrivals target table₀ table′ (at - 1) f t
+          Filling file shape arrivals target table₀ table′ ends (at - 1) f t
       unfolding flatPairs
       filling-more most table′ h l e =
           let q : (at - 1) * 2 + 2 ≡ at * 2 = omega arith in
@@ -222,6 +232,7 @@ module _ {file : List ℕ} {shape : Shape} {arrivals : List ℕ} (given : Given 
             sound = sounder;
             low = λ x m. lower x (List·Memᴰ·cases-cons m);
             full = λ n s a k. more n s a k (decLe (keyOf (f, b)) (keyOf (n, s)));
+            ended = ended-more (w .ended) t (omega (arith, facts f t (found .0) .4));
           }
         where
           lower : (x : ℕ × ℕ) → (x ≡ (f, t)) ⊎ List·Memᴰ x (w .done) → keyOf (f, t) ≤ keyOf x

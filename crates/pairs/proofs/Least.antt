@@ -1,6 +1,6 @@
 -- The computed test `asked` passes exactly the least set: a gate asks only for nodes below its own, so that the gates
 -- after it have asked already for all that it passes on. Laws: least-set; is-pair, pair-facts, asked-is-pair,
--- member-is-pair, asked-below. Assumes nothing.
+-- member-is-pair, asked-early, asked-below. Assumes nothing.
 use mathlib.Core.Path.{_≡_, refl, sym, ap, subst}
 use mathlib.Core.Bool.{Bool, not, _&&_}
 use mathlib.Core.List.{List, [], _∷_, List·Memᴰ, List·Memᴰ·head, List·Memᴰ·tail, List·Memᴰ·not-nil}
@@ -186,6 +186,11 @@ module _ (I : ℕ) (top : ℕ → ℕ) (outputs : List ℕ) (target : ℕ) where
       T (isPair I top outputs target f t)
   member-is-pair gates f t (output m u) = u
   member-is-pair gates f t (driver m i a u) = u
+
+  -- at the target or before it
+  pub asked-early : (gates : List (ℕ × Cell)) (f t : ℕ) → Asked I top outputs target gates f t → t ≤ target
+  asked-early gates f t (output m u) = omega arith
+  asked-early gates f t (driver {f = n} {s = s} m i a u) = omega (arith, asked-early gates n s a)
 
   -- and its node is one of the netlist's
   pub asked-below : (gates : List Cell) → T (all gateFits (numbered I gates)) →

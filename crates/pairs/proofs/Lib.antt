@@ -12,6 +12,8 @@ pub mod Marking
 pub mod Asking
 pub mod Linking
 pub mod Walking
+pub mod Spanning
+pub mod Ending
 pub mod Scanning
 pub mod Moving
 pub mod Topping

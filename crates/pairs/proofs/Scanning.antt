@@ -1,6 +1,6 @@
 -- The marks as they are read, from the last word down and in each word from the highest bit down: what is left is below
--- what was read, which was the largest. Laws: scanning-starts, scanning-fresh, scanning-next, scanning-none;
--- scanning-found, scanning-most, scanning-taken; last-..; highest-of. Assumes nothing.
+-- what was read, which was the largest. Laws: scanning-starts, scanning-fresh, scanning-next, scanning-clear,
+-- scanning-none; scanning-found, scanning-most, scanning-taken; last-..; highest-of. Assumes nothing.
 use mathlib.Core.Path.{_≡_, sym, ap, _∙_}
 use mathlib.Core.Logic.{_⊎_, inl, inr}
 use mathlib.Core.List.{List}
@@ -9,7 +9,8 @@ use native.Mathlib.Omega.{arith}
 use native.Mathlib.Decide.{decLt, ℕ-discrete}
 use lib.ListN.{length, getD, set, length-set}
 use lib.Pow.{pow-pos}
-use Rattle.pairs.specs.Table.{bitAt, Marked, Adds, Highest, LastWord}
+use Rattle.pairs.specs.Table.{bitAt, Marked, Adds, Highest, LastWord, Spans}
+use Rattle.pairs.specs.declared.Span.{Span}
 use Rattle.pairs.proofs.Bits.{bit-none, less-below, less-above, top-above, top-here}
 use Rattle.pairs.proofs.Marking.{no-mark, to-bit, of-bit, to-other, of-other, of-set}
 
@@ -17,9 +18,11 @@ use Rattle.pairs.proofs.Marking.{no-mark, to-bit, of-bit, to-other, of-
 abbrev pub Left : List ℕ → ℕ → ℕ → ℕ → Type 0
 Left marks word bits t = ((t / 64 ≡ word) × (bitAt bits (t % 64) ≡ 1)) ⊎ Marked marks t
 
--- what is left are the times below b that have a property, and the marks are in the words before the one that is read
-pub record Scanning (Has : ℕ → Type 0) (b : ℕ) (marks : List ℕ) (word bits : ℕ) : Type 0 where
+-- what is left are the times below b that have a property, and the marks are in the words from `low` to before the one
+-- that is read
+pub record Scanning (Has : ℕ → Type 0) (b : ℕ) (marks : List ℕ) (low word bits : ℕ) : Type 0 where
   pub room : word < length marks
+  pub least : (t : ℕ) → Marked marks t → low ≤ t / 64
   pub before : (t : ℕ) → Marked marks t → t / 64 < word
   pub each : (t : ℕ) → Left marks word bits t → Has t × (t < b)
   pub all : (t : ℕ) → Has t → t < b → Left marks word bits t
@@ -30,10 +33,11 @@ no-bit k e = omega (arith, bit-none 0 k (pow-pos k))
 
 module _ (Has : ℕ → Type 0) {marks : List ℕ} where
   -- nothing is marked, and nothing is below 0
-  pub scanning-starts : ((t : ℕ) → Marked marks t → ⊥) → 0 < length marks → Scanning Has 0 marks 0 0
+  pub scanning-starts : ((t : ℕ) → Marked marks t → ⊥) → 0 < length marks → Scanning Has 0 marks 0 0 0
   scanning-starts h r =
       record {
         room = r;
+        least = λ t m. omega arith;
         before = λ t m. absurd (h t m);
         each = λ t u. absurd (none t u);
         all = λ t u l. absurd (omega arith);
@@ -44,14 +48,15 @@ module _ (Has : ℕ → Type 0) {marks : List ℕ} where
       none t (inr m) = h t m
 
   -- nothing was marked, and then what has the property
-  pub scanning-fresh : {old : List ℕ} {X : ℕ → Type 0} (b word : ℕ) → ((t : ℕ) → Marked old t → ⊥) → Adds old X marks →
-      ((t : ℕ) → X t → Has t × (t < b)) → ((t : ℕ) → Has t → t < b → X t) → ((t : ℕ) → t < b → t / 64 < word) → word <
-      length marks →
-      Scanning Has b marks word 0
-  scanning-fresh {old} {X} b word h w f g l r =
+  pub scanning-fresh : {old : List ℕ} {X : ℕ → Type 0} {top : ℕ} {span : Span} (b : ℕ) →
+      ((t : ℕ) → Marked old t → ⊥) → Adds old X marks → ((t : ℕ) → X t → Has t × (t < b)) →
+      ((t : ℕ) → Has t → t < b → X t) → Spans top marks span → span .high < length marks →
+      Scanning Has b marks (span .low) (span .high) 0
+  scanning-fresh {old} {X} {span = span} b h w f g spans r =
       record {
         room = r;
-        before = λ t m. l t (f t (has t m) .1);
+        least = spans .low;
+        before = spans .high;
         each = λ t u. each t u;
         all = λ t u i. inr (w .new t (g t u i));
       }
@@ -63,29 +68,30 @@ module _ (Has : ℕ → Type 0) {marks : List ℕ} where
           pick (inl v) = absurd (h t v)
           pick (inr v) = v
 
-      each : (t : ℕ) → Left marks word 0 t → Has t × (t < b)
+      each : (t : ℕ) → Left marks (span .high) 0 t → Has t × (t < b)
       each t (inl u) = absurd (no-bit (t % 64) (u .1))
       each t (inr m) = f t (has t m)
 
-module _ {Has : ℕ → Type 0} {b : ℕ} {marks : List ℕ} where
+module _ {Has : ℕ → Type 0} {b : ℕ} {marks : List ℕ} {low : ℕ} where
   -- nothing is left
-  pub scanning-none : Scanning Has b marks 0 0 → (t : ℕ) → Has t → t < b → ⊥
-  scanning-none w t u l = pick (w .all t u l)
-    where
-      pick : Left marks 0 0 t → ⊥
-      pick (inl v) = no-bit (t % 64) (v .1)
-      pick (inr m) = omega (arith, w .before t m)
+  pub scanning-clear : {word : ℕ} → Scanning Has b marks low word 0 → word ≤ low → (t : ℕ) → Marked marks t → ⊥
+  scanning-clear w h t m = omega (arith, w .before t m, w .least t m)
 
-  pub scanning-clear : Scanning Has b marks 0 0 → (t : ℕ) → Marked marks t → ⊥
-  scanning-clear w t m = omega (arith, w .before t m)
+  pub scanning-none : {word : ℕ} → Scanning Has b marks low word 0 → word ≤ low → (t : ℕ) → Has t → t < b → ⊥
+  scanning-none {word} w h t u l = pick (w .all t u l)
+    where
+      pick : Left marks word 0 t → ⊥
+      pick (inl v) = no-bit (t % 64) (v .1)
+      pick (inr m) = scanning-clear w h t m
 
   -- the last word before this one that has marks is read
-  pub scanning-next : {word r : ℕ} (v : ℕ) → Scanning Has b marks word 0 → 0 < word → LastWord marks (word - 1) r →
-      v ≡ getD marks r 0 → Scanning Has b (set marks r 0) r v
+  pub scanning-next : {word r : ℕ} (v : ℕ) → Scanning Has b marks low word 0 → low < word →
+      LastWord marks low (word - 1) r → v ≡ getD marks r 0 → Scanning Has b (set marks r 0) low r v
   scanning-next {word} {r} v w h last e =
       record {
         room = rw length-set room;
-        before = λ t m. low t m;
+        least = λ t m. w .least t (old t m (ℕ-discrete (t / 64) r) .1);
+        before = λ t m. lower t m;
         each = λ t u. each t u;
         all = λ t u l. more t (w .all t u l) (ℕ-discrete (t / 64) r);
       }
@@ -97,8 +103,8 @@ module _ {Has : ℕ → Type 0} {b : ℕ} {marks : List ℕ} where
       old t m (yes p) = absurd (no-bit (t % 64) (of-set marks r 0 room t p m))
       old t m (no p) = (p, of-other marks r 0 room t p m)
 
-      low : (t : ℕ) → Marked (set marks r 0) t → t / 64 < r
-      low t m =
+      lower : (t : ℕ) → Marked (set marks r 0) t → t / 64 < r
+      lower t m =
           let u = old t m (ℕ-discrete (t / 64) r) in
           go (u .0) (u .1) (decLt r (t / 64))
         where
@@ -116,15 +122,15 @@ module _ {Has : ℕ → Type 0} {b : ℕ} {marks : List ℕ} where
       more t (inr m) (no p) = inr (to-other marks r 0 room t p m)
 
   -- the highest bit is read: time t
-  module _ {word bits k : ℕ} (w : Scanning Has b marks word bits) (high : Highest bits k) (t : ℕ)
+  module _ {word bits k : ℕ} (w : Scanning Has b marks low word bits) (high : Highest bits k) (t : ℕ)
       (here : t ≡ word * 64 + k) where
     pub scanning-found : Has t × (t < b)
     scanning-found =
         w .each t
-        (inl (omega (arith, high .within), rw low (top-here bits k (high .least) (high .most))))
+        (inl (omega (arith, high .within), rw place (top-here bits k (high .least) (high .most))))
       where
-        low : t % 64 ≡ k
-        low = omega (arith, high .within)
+        place : t % 64 ≡ k
+        place = omega (arith, high .within)
 
     -- a time that is left is t, or below it and still left
     later : (s : ℕ) → Left marks word bits s → (s ≡ t) ⊎ ((s < t) × Left marks word (bits - 2 ^ k) s)
@@ -148,11 +154,12 @@ module _ {Has : ℕ → Type 0} {b : ℕ} {marks : List ℕ} where
         pick (inl e) = omega arith
         pick (inr u) = omega (arith, u .0)
 
-    pub scanning-taken : (rest : ℕ) → rest ≡ bits - 2 ^ k → Scanning Has t marks word rest
+    pub scanning-taken : (rest : ℕ) → rest ≡ bits - 2 ^ k → Scanning Has t marks low word rest
     scanning-taken rest e =
         rw e
         (record {
           room = w .room;
+          least = w .least;
           before = w .before;
           each = λ s u. each s u;
           all = λ s h l. all s l (later s (w .all s h (omega (arith, scanning-found .1))));

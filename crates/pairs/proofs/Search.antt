@@ -1,6 +1,6 @@
 -- The search by halves: all before `low` are before the key, none from `high` on is, and half of what is between goes
 -- at each turn. A pair of the list stands where the search for its key ends. Laws: searching-starts, searching-up,
--- searching-down, searching-ends, searching-from, searching-node; precede-le, node-precede; begins-at, begins-more;
+-- searching-down, searching-ends, searching-between, searching-node; precede-le, node-precede; begins-at, begins-more;
 -- sorted-le, rising-sorted; lists-sorted, lists-long, first-early, place-found. Assumes nothing.
 use mathlib.Core.Path.{_≡_, refl, sym, ap, subst, _∙_}
 use mathlib.Core.Logic.{inl, inr}
@@ -105,27 +105,22 @@ precede-le {j = j} {k = k} p q h = go (decLt k j)
     go (yes i) = absurd (omega (arith, p .before k i, q .after k (omega arith) (omega (arith, p .within))))
     go (no i) = omega arith
 
--- and the search for a larger key may start there
-pub searching-from : {l : List (ℕ × ℕ)} {low k : ℕ} (high n : ℕ) → Precede l low k → low ≤ high → n ≡ length l →
-    Searching l high k n
-searching-from high n p h e =
+-- a key between two stands between where they do
+pub searching-between : {l : List (ℕ × ℕ)} {low high j k : ℕ} (key : ℕ) → Precede l low j → Precede l high k →
+    low ≤ key → key ≤ high → Searching l key j k
+searching-between key p q a b =
     record {
-      upto = omega (arith, p .within);
-      within = omega arith;
-      before = λ j i. omega (arith, p .before j i);
-      after = λ j i w. absurd (omega arith);
+      upto = precede-le p q (omega arith);
+      within = q .within;
+      before = λ i h. omega (arith, p .before i h);
+      after = λ i h w. omega (arith, q .after i h w);
     }
 
 -- the pairs of a node stand from where they begin to where those of the next do
 pub searching-node : {l : List (ℕ × ℕ)} {starts : List ℕ} (node time : ℕ) → time < 4294967296 →
     Bounds l starts node → Searching l (node * 4294967296 + time) (getD starts node 0) (getD starts (node + 1) 0)
 searching-node node time h w =
-    record {
-      upto = precede-le (w .low) (w .high) (omega arith);
-      within = w .high .within;
-      before = λ k i. omega (arith, w .low .before k i);
-      after = λ k i j. omega (arith, w .high .after k i j);
-    }
+    searching-between (node * 4294967296 + time) (w .low) (w .high) (omega arith) (omega arith)
 
 pub begins-at : {l : List (ℕ × ℕ)} {starts : List ℕ} {nodes : ℕ} (node : ℕ) → Begins l starts nodes → node < nodes →
     Bounds l starts node

@@ -11,6 +11,7 @@ use Rattle.netlist.specs.declared.Shape.{Shape}
 use Rattle.netlist.specs.Netlist.{Netlist, Cell, Pin, nodes, gateFits}
 use Rattle.netlist.specs.File.{netlistAt, cellAt, pinAt, firstAt, driverAt, delayAt, circuitAt}
 use Rattle.netlist.specs.Holds.{Given}
+use Rattle.settle.specs.Steps.{latest}
 use Rattle.netlist.proofs.Entries.{
   pin-driver,
   pin-delay,
@@ -23,11 +24,10 @@ use Rattle.netlist.proofs.Entries.{
 }
 use Rattle.netlist.proofs.Valid.{valid-gates, valid-outputs, fits-below}
 use Rattle.settle.specs.Settling.{topOf}
-use Rattle.settle.specs.Steps.{latest}
 use Rattle.settle.proofs.Gates.{tops-early}
 use Rattle.pairs.specs.Pairs.{isPair, Asked, output, driver}
 use Rattle.pairs.specs.Table.{PinAsks, AsksAll, byOutput, byPin}
-use Rattle.pairs.proofs.Least.{pair-facts, member-is-pair, asked-below}
+use Rattle.pairs.proofs.Least.{pair-facts, member-is-pair, asked-early, asked-below}
 
 -- the least set of an accepted file's target
 abbrev pub AskedAt : List ℕ → Shape → List ℕ → ℕ → ℕ → ℕ → Type 0
@@ -49,7 +49,7 @@ module _ {file : List ℕ} {shape : Shape} {arrivals : List ℕ} (given : Given 
   -- what is known of each that is asked for
   pub facts-of : (f t : ℕ) → AskedAt file shape arrivals target f t →
       (shape .inputs ≤ f) × (f < shape .inputs + shape .gates) × (0 < t) × (t ≤ topOf (circuitAt file shape arrivals) f)
-      × (t ≤ latest)
+      × (t ≤ latest) × (t ≤ target)
   facts-of f t a =
       let w =
       pair-facts (net .inputs) (topOf (circuitAt file shape arrivals)) (net .outputs) target f t
@@ -64,6 +64,7 @@ module _ {file : List ℕ} {shape : Shape} {arrivals : List ℕ} (given : Given 
         w .1,
         w .2,
         omega (arith, w .2, tops-early given f),
+        asked-early (net .inputs) (topOf (circuitAt file shape arrivals)) (net .outputs) target (nodes net) f t a,
       )
 
   -- what is asked for is asked for by an output, or by a pair that is known

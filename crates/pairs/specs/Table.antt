@@ -2,13 +2,17 @@
 -- for a pair where the pairs after it are known, and the pins of each node in chains. Interface: none of it; it serves
 -- the functions under `table` and `place`.
 use mathlib.Core.Path.{_≡_}
+use mathlib.Core.Bool.{cond}
 use mathlib.Core.List.{List, [], _∷_, List·Memᴰ}
 use mathlib.Core.Logic.{_⊎_}
-use Prim.Native.Nat.{ℕ, suc, _+_, _-_, _*_, _/_, _%_, _^_, _≤_, _<_}
+use Prim.Native.Nat.{ℕ, suc, _+_, _-_, _*_, _/_, _%_, _^_, _≤_, _<_, min, max}
+use lib.Dec.{ltb}
 use lib.ListN.{length, getD, drop}
 use Rattle.netlist.specs.declared.Shape.{Shape}
 use Rattle.netlist.specs.File.{firstAt, countAt, driverAt, delayAt, netlistAt}
+use Rattle.settle.specs.Steps.{latest}
 use Rattle.pairs.specs.declared.Filled.{Filled}
+use Rattle.pairs.specs.declared.Span.{Span}
 use Rattle.pairs.specs.declared.Filled.the-variants.{From, Full}
 use Rattle.pairs.specs.Pairs.{flatPairs}
 
@@ -74,15 +78,31 @@ pub record Highest (word k : ℕ) : Type 0 where
   pub least : 2 ^ k ≤ word
   pub most : word < 2 ^ suc k
 
--- r is the last word with a mark, of those up to one; the first where there is none
-pub record LastWord (marks : List ℕ) (from r : ℕ) : Type 0 where
+-- r is the last word with a mark, of those up to one; one not above `low` where there is none
+pub record LastWord (marks : List ℕ) (low from r : ℕ) : Type 0 where
   pub within : r ≤ from
   pub empty : (k : ℕ) → r < k → k ≤ from → getD marks k 0 ≡ 0
-  pub first : getD marks r 0 ≡ 0 → r ≡ 0
+  pub first : getD marks r 0 ≡ 0 → r ≤ low
 
--- words beyond this hold no mark: 64 times a word, the latest of them 447,552
-abbrev pub mostWords : ℕ
-mostWords = 7150
+-- so many words are one more than the times up to the target and the largest top take, 64 times a word
+abbrev pub Roomy : ℕ → ℕ → Type 0
+Roomy target words = (t : ℕ) → t ≤ target → t ≤ latest → t / 64 + 1 < words
+
+-- the marks stand in the words of a span, none of which is above a top's
+pub record Spans (top : ℕ) (marks : List ℕ) (span : Span) : Type 0 where
+  pub low : (t : ℕ) → Marked marks t → span .low ≤ t / 64
+  pub high : (t : ℕ) → Marked marks t → t / 64 < span .high
+  pub within : span .high ≤ top / 64 + 1
+
+-- a span, and the words of the times of the pairs from `begin` to before `end`, less a delay
+abbrev pub pinSpan : List (ℕ × ℕ) → ℕ → ℕ → ℕ → Span → Span
+pinSpan l delay begin end span =
+    cond (ltb begin end)
+    (record {
+      low = min (span .low) ((pairAt l begin .1 - delay) / 64);
+      high = max (span .high) ((pairAt l (end - 1) .1 - delay) / 64 + 1);
+    })
+    span
 
 -- ---- what asks for node f at t, where the pairs l are known
 
@@ -155,6 +175,17 @@ pub record Holding (Has : ℕ × ℕ → Type 0) (links : List ℕ) (n e : ℕ) 
 -- and so for each node, from its head on
 pub record Chains (Has : ℕ → ℕ × ℕ → Type 0) (heads links : List ℕ) (n : ℕ) : Type 0 where
   pub of : (f : ℕ) → f < length heads → Holding (Has f) links n (getD heads f 0)
+
+-- ---- where the pairs of each gate begin among the pairs l, from whose front more are to come
+
+-- by how many pairs stand from there on
+pub record EndsAt (l : List (ℕ × ℕ)) (inputs : ℕ) (ends : List ℕ) (number : ℕ) : Type 0 where
+  pub few : getD ends number 0 ≤ length l
+  pub from : Precede l ((inputs + number) * 4294967296) (length l - getD ends number 0)
+
+-- for each gate above node f, and for the node after the last
+pub record Ended (l : List (ℕ × ℕ)) (shape : Shape) (ends : List ℕ) (f : ℕ) : Type 0 where
+  pub of : (number : ℕ) → f < shape .inputs + number → number ≤ shape .gates → EndsAt l (shape .inputs) ends number
 
 -- the table's end holds the pairs l, or they are more than there is room for
 abbrev pub Kept : List (ℕ × ℕ) → ℕ → List ℕ → Filled → Type 0

@@ -4,7 +4,7 @@
 use netlist::Shape;
 ghost use mathlib.Core.Path.{_≡_};
 ghost use mathlib.Core.List.{List, _∷_, _++_};
-ghost use Prim.Native.Nat.{ℕ, _+_, _*_, _/_, _≤_, _<_, max, min};
+ghost use Prim.Native.Nat.{ℕ, _+_, _-_, _*_, _/_, _≤_, _<_, max, min};
 ghost use lib.ListN.{length, getD, take, drop};
 ghost use Rattle.netlist.specs.File.{cellAt};
 ghost use Rattle.netlist.specs.Holds.{Holds, Given};
@@ -22,7 +22,9 @@ ghost use Rattle.pairs.specs.Table.{
   Adds,
   Highest,
   LastWord,
-  mostWords,
+  Roomy,
+  Spans,
+  pinSpan,
   Within,
   Drives,
   Chains,
@@ -30,6 +32,8 @@ ghost use Rattle.pairs.specs.Table.{
   OutputAsks,
   AsksAll,
   mostPins,
+  EndsAt,
+  Ended,
   Kept,
 };
 ghost use Rattle.pairs.specs.Promise.{Topped, Tops, pairsAt, Held, Lists, Findable, Bounds, Begins};
@@ -38,6 +42,12 @@ ghost use Rattle.pairs.specs.Promise.{Topped, Tops, pairsAt, Held, Lists
 enum Filled {
     From(usize),
     Full,
+}
+
+// The words in which marks stand: from `low` to before `high`.
+struct Span {
+    low: usize,
+    high: usize,
 }
 
 // How many pairs there are, or that they are too many.
@@ -51,6 +61,13 @@ fn larger(a: usize, b: usize) -> usize
     ensures { λ r. ⌜ r ≡ max a b ⌝ }
 {
     if a < b { b } else { a }
+}
+
+// The smaller of two numbers.
+fn smaller(a: usize, b: usize) -> usize
+    ensures { λ r. ⌜ r ≡ min a b ⌝ }
+{
+    if a < b { a } else { b }
 }
 
 // A pair of the table as one number.
@@ -170,21 +187,50 @@ fn mark(marks: &mut [usize], time: usize)
     marks[word] = marks[word] | (1usize << (time % 64));
 }
 
-// Mark what a pin of this node with this delay asks for, from 1 to the top: the node's pairs from the one after the
-// delay to the one at the top and the delay.
-fn mark_pin(done: &[u32], node: usize, delay: usize, top: usize, marks: &mut [usize])
-    requires { ⌜ Sorted (pairsIn (now done)) × (node < 65536) × (delay < 1000) × (top < farTime)
-        × (top / 64 < length (now marks)) ⌝ }
-    ensures { λ _. ⌜ Adds (now (marks .entry)) (Within top (PinAsks (pairsIn (now (done .entry))) node delay))
-        (now (marks .exit)) ⌝ }
+// The words of what a pin with this delay asks for, by the pairs from `begin` to before `end`, and those of a span.
+fn pin_span(done: &[u32], delay: usize, begin: usize, end: usize, span: Span) -> Span
+    requires { ⌜ (end ≤ length (now done) / 2) × (begin < end → delay ≤ pairAt (pairsIn (now done)) begin .1)
+        × (begin < end → delay ≤ pairAt (pairsIn (now done)) (end - 1) .1) ⌝ }
+    ensures { λ r. ⌜ r ≡ pinSpan (pairsIn (now (done .entry))) delay begin end span ⌝ }
+{
+    if begin < end {
+        let first = time_at(done, begin) - delay;
+        let last = time_at(done, end - 1) - delay;
+        return Span {
+            low: smaller(span.low, first / 64),
+            high: larger(span.high, last / 64 + 1),
+        };
+    }
+    span
+}
+
+// Mark what a pin of this node with this delay asks for, from 1 to the top: the node's pairs, which stand from `first`
+// to before `last`, from the one after the delay to the one at the top and the delay.
+fn mark_pin(
+    done: &[u32],
+    first: usize,
+    last: usize,
+    node: usize,
+    delay: usize,
+    top: usize,
+    marks: &mut [usize],
+    span: Span,
+) -> Span
+    requires { ⌜ Sorted (pairsIn (now done)) × Precede (pairsIn (now done)) (node * 4294967296) first
+        × Precede (pairsIn (now done)) ((node + 1) * 4294967296) last × (node < 65536) × (delay < 1000)
+        × (top < farTime) × (top / 64 < length (now marks)) × Spans top (now marks) span ⌝ }
+    ensures { λ r. ⌜ Adds (now (marks .entry)) (Within top (PinAsks (pairsIn (now (done .entry))) node delay))
+        (now (marks .exit)) × Spans top (now (marks .exit)) r ⌝ }
 {
     let key = node * 4294967296 + delay;
-    let mut k = pairs_before(done, key + 1, 0, done.len() / 2);
-    let end = pairs_before(done, key + top + 1, k, done.len() / 2);
+    let begin = pairs_before(done, key + 1, first, last);
+    let end = pairs_before(done, key + top + 1, begin, last);
+    let mut k = begin;
     while k < end {
         mark(marks, time_at(done, k) - delay);
         k += 1;
     }
+    pin_span(done, delay, begin, end, span)
 }
 
 // The pins of a gate, each linked before the others that its driver drives. A link is the next link's number, counted
@@ -235,29 +281,53 @@ fn link(file: &[u8], shape: Shape, heads: &mut [u32], links: &mut [u32])
     }
 }
 
-// Mark the target, where f is an output and the target is 1 to the top.
-fn mark_output(file: &[u8], shape: Shape, target: usize, f: usize, top: usize, marks: &mut [usize])
-    requires { ⌜ Holds (now file) shape × (top / 64 < length (now marks)) ⌝ }
-    ensures { λ _. ⌜ Adds (now (marks .entry)) (Within top (OutputAsks (now (file .entry)) shape target f))
-        (now (marks .exit)) ⌝ }
+// Mark the target, where f is an output and the target is 1 to the top; nothing is marked before, and `none` is a span
+// of that.
+fn mark_output(
+    file: &[u8],
+    shape: Shape,
+    target: usize,
+    f: usize,
+    top: usize,
+    marks: &mut [usize],
+    none: Span,
+) -> Span
+    requires { ⌜ Holds (now file) shape × (top / 64 < length (now marks)) × ((t : ℕ) → Marked (now marks) t → ⊥)
+        × Spans top (now marks) none ⌝ }
+    ensures { λ r. ⌜ Adds (now (marks .entry)) (Within top (OutputAsks (now (file .entry)) shape target f))
+        (now (marks .exit)) × Spans top (now (marks .exit)) r ⌝ }
 {
     if target == 0 {
-        return;
+        return none;
     }
     if top < target {
-        return;
+        return none;
     }
     let mut i = 0;
     while i < shape.outputs {
         if netlist::output_at(file, shape, i) == f {
             mark(marks, target);
-            return;
+            let low = target / 64;
+            let high = low + 1;
+            return Span {
+                low: low,
+                high: high,
+            };
         }
         i += 1;
     }
+    none
 }
 
-// Mark what is asked of f, from 1 to its top: by the outputs, and by the pins that it drives.
+// Where the pairs of a gate begin among those found, by how many stand from there on.
+fn begin_at(done: &[u32], ends: &[u32; 449], number: usize) -> usize
+    requires { ⌜ (number < 449) × (getD (now ends) number 0 ≤ length (now done) / 2) ⌝ }
+    ensures { λ r. ⌜ r ≡ length (pairsIn (now (done .entry))) - getD (now (ends .entry)) number 0 ⌝ }
+{
+    done.len() / 2 - lent::widen(ends[number])
+}
+
+// Mark what is asked of f, from 1 to a top: by the outputs, and by the pins that it drives.
 fn mark_asked(
     done: &[u32],
     file: &[u8],
@@ -265,30 +335,38 @@ fn mark_asked(
     target: usize,
     heads: &[u32],
     links: &[u32],
+    ends: &[u32; 449],
     f: usize,
     top: usize,
     marks: &mut [usize],
-)
+) -> Span
     requires { ⌜ Sorted (pairsIn (now done)) × Holds (now file) shape × (f < shape .inputs + shape .gates)
         × (shape .inputs + shape .gates ≤ length (now heads)) × (top < farTime) × (top / 64 < length (now marks))
-        × Chains (Drives (now file) shape (shape .gates)) (now heads) (now links) mostPins ⌝ }
-    ensures { λ _. ⌜ Adds (now (marks .entry))
+        × Chains (Drives (now file) shape (shape .gates)) (now heads) (now links) mostPins
+        × Ended (pairsIn (now done)) shape (now ends) f × ((t : ℕ) → Marked (now marks) t → ⊥) ⌝ }
+    ensures { λ r. ⌜ Adds (now (marks .entry))
         (Within top (AsksAll (pairsIn (now (done .entry))) (now (file .entry)) shape target f))
-        (now (marks .exit)) ⌝ }
+        (now (marks .exit)) × Spans top (now (marks .exit)) r ⌝ }
 {
-    mark_output(file, shape, target, f, top, marks);
+    let none = Span { low: 7151, high: 0 };
+    let mut span = mark_output(file, shape, target, f, top, marks, none);
     let mut at = lent::widen(heads[f]);
     while 0 < at {
         let link = lent::widen(links[at - 1]);
-        mark_pin(
+        let number = link / 1024 % 512;
+        span = mark_pin(
             done,
-            shape.inputs + link / 1024 % 512,
+            begin_at(done, ends, number),
+            begin_at(done, ends, number + 1),
+            shape.inputs + number,
             link % 1024,
             top,
             marks,
+            span,
         );
         at = link / 524288;
     }
+    span
 }
 
 // The place of a word's highest bit.
@@ -299,13 +377,13 @@ fn highest(word: usize) -> usize
     63 - usize::leading_zeros(word) as usize
 }
 
-// The last word with a mark, of those up to one; the first where there is none.
-fn last_word(marks: &[usize], from: usize) -> usize
+// The last word with a mark, of those up to one; one not above `low` where there is none.
+fn last_word(marks: &[usize], low: usize, from: usize) -> usize
     requires { ⌜ from < length (now marks) ⌝ }
-    ensures { λ r. ⌜ LastWord (now (marks .entry)) from r ⌝ }
+    ensures { λ r. ⌜ LastWord (now (marks .entry)) low from r ⌝ }
 {
     let mut word = from;
-    while 0 < word {
+    while low < word {
         if marks[word] != 0 {
             break;
         }
@@ -325,8 +403,8 @@ fn put_pair(table: &mut [u32], k: usize, node: usize, time: usize)
 }
 
 // Fill the table from its end: what stands from `at` on are the pairs found, and what is still to be found of node f is
-// marked, as `bits` in this word and in the words before it. The next pair is f at the highest bit; where no mark is
-// left, the node below f follows.
+// marked, as `bits` in this word and in the words from `low` to before it. The next pair is f at the highest bit; where
+// no mark is left, the node below f follows. No time is asked for that is above the target.
 fn fill(
     file: &[u8],
     shape: Shape,
@@ -340,19 +418,23 @@ fn fill(
     requires { ⌜ Given (now file) shape (take (shape .inputs) (now tops))
         × Tops (now file) shape (take (shape .inputs) (now tops)) (now tops)
         × (length (now table) / 2 * 2 ≡ length (now table)) × ((t : ℕ) → Marked (now marks) t → ⊥)
-        × (mostWords < length (now marks)) × (shape .inputs + shape .gates ≤ length (now heads))
-        × Chains (Drives (now file) shape (shape .gates)) (now heads) (now links) mostPins ⌝ }
+        × Roomy target (length (now marks)) × (shape .inputs + shape .gates ≤ length (now heads))
+        × Chains (Drives (now file) shape (shape .gates)) (now heads) (now links) mostPins
+        × (length (now table) ≤ 131072) ⌝ }
     ensures { λ r. ⌜ Kept (pairsAt (now (file .entry)) shape (take (shape .inputs) (now (tops .entry))) target)
         (length (now (table .entry)) / 2) (now (table .exit)) r ⌝ }
 {
     let mut at = table.len() / 2;
     let mut f = shape.inputs + shape.gates;
+    let held = at;
+    let mut ends = [0u32; 449];
+    let mut low = 0;
     let mut word = 0;
     let mut bits = 0;
     loop {
         if bits == 0 {
-            if 0 < word {
-                word = last_word(marks, word - 1);
+            if low < word {
+                word = last_word(marks, low, word - 1);
                 bits = marks[word];
                 marks[word] = 0;
                 continue;
@@ -360,20 +442,23 @@ fn fill(
             if f <= shape.inputs {
                 break;
             }
+            ends[f - shape.inputs] = (held - at) as u32;
             f -= 1;
-            let top = lent::widen(tops[f]);
-            mark_asked(
+            let top = smaller(lent::widen(tops[f]), target);
+            let span = mark_asked(
                 &table[at * 2..],
                 file,
                 shape,
                 target,
                 heads,
                 links,
+                &ends,
                 f,
                 top,
                 marks,
             );
-            word = top / 64 + 1;
+            low = span.low;
+            word = span.high;
             continue;
         }
         let bit = highest(bits);
@@ -385,6 +470,33 @@ fn fill(
         put_pair(table, at, f, word * 64 + bit);
     }
     Filled::From(at)
+}
+
+// The same with marks for all times up to the target, or up to the largest top: few where the target is small, since
+// each word is zeroed.
+fn find(
+    file: &[u8],
+    shape: Shape,
+    target: usize,
+    tops: &[u32],
+    heads: &[u32],
+    links: &[u32],
+    table: &mut [u32],
+) -> Filled
+    requires { ⌜ Given (now file) shape (take (shape .inputs) (now tops))
+        × Tops (now file) shape (take (shape .inputs) (now tops)) (now tops)
+        × (length (now table) / 2 * 2 ≡ length (now table)) × (shape .inputs + shape .gates ≤ length (now heads))
+        × Chains (Drives (now file) shape (shape .gates)) (now heads) (now links) mostPins
+        × (length (now table) ≤ 131072) ⌝ }
+    ensures { λ r. ⌜ Kept (pairsAt (now (file .entry)) shape (take (shape .inputs) (now (tops .entry))) target)
+        (length (now (table .entry)) / 2) (now (table .exit)) r ⌝ }
+{
+    if target < 16000 {
+        let mut marks = [0usize; 251];
+        return fill(file, shape, target, tops, heads, links, table, &mut marks);
+    }
+    let mut marks = [0usize; 7151];
+    fill(file, shape, target, tops, heads, links, table, &mut marks)
 }
 
 // What stands from a place on, moved to the front.
@@ -417,11 +529,10 @@ pub fn table(file: &[u8], shape: Shape, target: usize, tops: &[u32], table: &mut
         (length (now (table .entry))) (now (table .exit)) r ⌝ }
 {
     let room = holds(table.len());
-    let mut marks = [0usize; 7151];
     let mut heads = [0u32; 512];
     let mut links = [0u32; 3584];
     link(file, shape, &mut heads, &mut links);
-    let got = fill(
+    let got = find(
         file,
         shape,
         target,
@@ -429,7 +540,6 @@ pub fn table(file: &[u8], shape: Shape, target: usize, tops: &[u32], table: &mut
         &heads,
         &links,
         &mut table[..room * 2],
-        &mut marks,
     );
     match got {
         Filled::From(at) => {

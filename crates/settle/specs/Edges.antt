@@ -29,7 +29,7 @@ use Rattle.netlist.specs.Edges.{written, oneGate}
 use Rattle.settle.specs.declared.Settled.the-variants.{At}
 use Rattle.settle.specs.Settling.{gateValue, settles, grow, valuesOf, timesOf, circuitTime}
 use Rattle.settle.specs.Promise.{Evaluation, refused, evaluation, givenRows, settled}
-use Rattle.settle.specs.Cases.{Case}
+use Rattle.settle.specs.Cases.{Case, lateCases}
 
 -- a circuit of one gate: kind, delays, vector, and the gate's value and time
 abbrev gives : ℕ → List ℕ → List ℕ → ℕ → ℕ → Case
@@ -130,7 +130,7 @@ lateOrders =
 
 -- all of them
 unfoldable pub edges : List Case
-edges = everyKind ++ (orders ++ lateOrders)
+edges = everyKind ++ (orders ++ (lateCases ++ lateOrders))
 
 -- each is evaluated so
 pub edges-hold :
@@ -139,7 +139,7 @@ pub edges-hold :
     evaluation (c .file) (c .arrivals) (c .vector) (length (c .expected .values)) (length (c .expected .times))) edges
     ≡ map (λ (c : Case). c .expected) edges
 unfolding
-    edges everyKind orders lateOrders written oneGate circuitA netlistRows firstWrong countWrong backWrong pinsBefore gateWrong
+    edges everyKind orders lateCases lateOrders written oneGate circuitA netlistRows firstWrong countWrong backWrong pinsBefore gateWrong
     gatePlace sumWrong pinsAt pinWrong pinPlace outputWrong outputPlace kinds kindRow tableBytes shapeOf gateAt pinAt
     pinsFrom cellOf cellAt netlistAt gateValue settles grow valuesOf timesOf circuitTime evaluation givenRows settled
     arrivalRows

@@ -26,9 +26,9 @@ add-refutes : tie.Need-add-refutes
 add-refutes c =
     let told = c .before .before in
     let call = told .before .before .before .before .before .before in
-    let start = call .before .before .before .before .before .before .before .before .before in
+    let start = call .before .before .before .before .before .before .before .before .before .before in
     let e = call .evaluate-accepted .ensures .answer-is in
-    let h = time-small _ _ _ _ (start .pre .valid) e (told .settled2 .given .1) in
+    let h = time-small _ _ _ (start .pre) e (told .settled2 .given .1) in
     omega (arith, c .if1 .taken)
 
 refutes-requires : tie.Need-refutes-requires

@@ -4,18 +4,19 @@ use native.Mathlib.Omega.{arith}
 use lib.ListN.{length}
 use borrow.Author.Needs.{needs}
 use Rattle.formula.specs.Emission.{gateMost, pairsMost}
-use Rattle.formula.specs.Late.{lent, pairRun}
+use Rattle.formula.specs.Late.{lent, pairRun, Long}
 use Rattle.formula.proofs.PairClauses.{Here, stands-here, gated, pair-here}
 use Rattle.formula.proofs.Emission as E
 use Rattle.formula.proofs.all_pairs.Statement.{statement}
 use Rattle.formula.proofs.all_pairs.Tie as tie
 
 abbrev Inv-loop : tie.InvT-loop
-Inv-loop file shape tops table starts formula₀ to₀ k₀ formula to k =
+Inv-loop file shape tops table starts nodes₀ lates₀ formula₀ to₀ k₀ nodes lates formula to k =
     (k ≤ length table / 2) × E.Emitting gateMost (pairRun file (lent shape tops table)) k formula₀ to₀ formula to
+    × Long nodes lates
 
 abbrev μ-loop : tie.MeasureT-loop
-μ-loop file shape tops table starts formula₀ to₀ k₀ formula to k = length table / 2 - k
+μ-loop file shape tops table starts nodes₀ lates₀ formula₀ to₀ k₀ nodes lates formula to k = length table / 2 - k
 
 -- the places on the way
 abbrev start : tie.At-loop Inv-loop μ-loop → tie.Start Inv-loop μ-loop
@@ -36,7 +37,9 @@ here c = stands-here (looped c .loop .k) (c .pair-at .result) (start (looped c) 
     (c .pair-at .ensures)
 
 loop-holds : tie.Need-loop-holds Inv-loop μ-loop
-loop-holds c = (omega arith, E.emitting-starts _ _ _ _ (c .before .before .before .before .pre .3 .fewer))
+loop-holds c =
+    let pre = c .before .before .before .before .pre in
+    (omega arith, E.emitting-starts _ _ _ _ (pre .3 .fewer), pre .4)
 
 pair-at-requires : tie.Need-pair-at-requires Inv-loop μ-loop
 pair-at-requires c κs = search needs
@@ -54,8 +57,8 @@ pair-variable-requires c κs = search needs
 
 pair-clauses-requires : tie.Need-pair-clauses-requires Inv-loop μ-loop
 pair-clauses-requires c κs =
-    let variable = c .before .pair-variable .ensures in
-    let gate = c .before .before in
+    let variable = c .before .before .before .pair-variable .ensures in
+    let gate = c .before .before .before .before in
     let pair = paired gate in
     let at = looped pair in
     let s = start at in
@@ -66,11 +69,12 @@ pair-clauses-requires c κs =
       omega arith,
       omega (arith, s .pre .1 .slices .nodes-few, few, pair .before .loop-test .taken),
       E.emitting-fits 65536 (s .pre .3) (at .loop .inv .1) (omega (arith, few, pair .before .loop-test .taken)),
+      at .loop .inv .2,
     )
 
 add-k : tie.Need-add-k Inv-loop μ-loop
 add-k c =
-    let pair = paired (c .before .before .before .before) in
+    let pair = paired (c .before .before .before .before .before .before) in
     omega (arith, pair .before .loop-test .taken, start (looped pair) .pre .1 .slices .pairs-few)
 
 loop-less : tie.Need-loop-less Inv-loop μ-loop
@@ -78,14 +82,15 @@ loop-less c = search needs
 
 loop-again : tie.Need-loop-again Inv-loop μ-loop
 loop-again c =
-    let variable = c .before .before .before in
+    let variable = c .before .before .before .before .before in
     let gate = variable .before in
     let pair = paired gate in (
       omega (arith, pair .before .loop-test .taken),
       E.emitting-more (looped pair .loop .inv .1)
-          (E.emits-as gateMost (c .before .pair-clauses .ensures)
+          (E.emits-as gateMost (c .before .pair-clauses .ensures .0)
           (pair-here (gate .gate-at .result) (here pair .stands) (gate .gate-at .ensures .0) (here pair .is)
           (variable .pair-variable .ensures)) (omega arith)),
+      c .before .pair-clauses .ensures .1,
     )
 
 same-length : tie.Need-same-length Inv-loop μ-loop
@@ -94,8 +99,11 @@ same-length c = E.emitting-length (c .before .loop .inv .1)
 returns : tie.Need-returns Inv-loop μ-loop
 returns c =
     let s = start (c .before) in
-    E.emitting-ends (length (s .args .table .now) / 2) pairsMost (c .before .loop .inv .1) (c .before .loop .inv .0)
-    (c .loop-test .left) (omega (arith, s .pre .1 .slices .pairs-few))
+    let loop = c .before .loop in (
+      E.emitting-ends (length (s .args .table .now) / 2) pairsMost (loop .inv .1) (loop .inv .0) (c .loop-test .left)
+          (omega (arith, s .pre .1 .slices .pairs-few)),
+      loop .inv .2,
+    )
 
 pub all-pairs-spec : {M : Type 1} → statement M
 all-pairs-spec =

@@ -12,23 +12,11 @@ use Rattle.formula.proofs.gate_clauses.Tie as tie
 abbrev start : tie.After-read-asked → tie.Start
 start c = c .before .before .before .before .before .before .before
 
-slice-aggregate-read-asked : tie.Need-slice-aggregate-read-asked
-slice-aggregate-read-asked c = search needs
-
-slice-aggregate-read-asked-2 : tie.Need-slice-aggregate-read-asked-2
-slice-aggregate-read-asked-2 c = search needs
-
 read-asked-requires : tie.Need-read-asked-requires
 read-asked-requires c κs = search needs
 
 enum-known-kind : tie.Need-enum-known-kind
 enum-known-kind c = search needs
-
-slice-aggregate-simple-clauses : tie.Need-slice-aggregate-simple-clauses
-slice-aggregate-simple-clauses c = search needs
-
-slice-aggregate-simple-clauses-2 : tie.Need-slice-aggregate-simple-clauses-2
-slice-aggregate-simple-clauses-2 c = search needs
 
 simple-clauses-requires : tie.Need-simple-clauses-requires
 simple-clauses-requires c κs = search needs
@@ -39,17 +27,16 @@ same-length c = search needs
 returns : tie.Need-returns
 returns c =
     let kind = c .before .before .before .before .before .before in
-    let read = kind .before .before .before .before in
-    let fields = kind .kind .given .0 in
-    rw (kind .kind .given .1)
-    (emits-as gateMost (c .before .simple-clauses .ensures)
-    (simple-read (read .read-asked .ensures) (fields .0) (fields .1 .0) (start read .args .node)) (omega arith))
+    let read = kind .before .before in
+    let fields = kind .kind .given .0 in (
+      rw (kind .kind .given .1)
+          (emits-as gateMost (c .before .simple-clauses .ensures)
+          (simple-read (read .read-asked .ensures) (fields .0) (fields .1 .0) (start read .args .node)) (omega arith)),
+      read .read-asked .ensures .long,
+    )
 
 enum-known-kind-2 : tie.Need-enum-known-kind-2
 enum-known-kind-2 c = search needs
-
-slice-aggregate-choice-clauses : tie.Need-slice-aggregate-choice-clauses
-slice-aggregate-choice-clauses c = search needs
 
 choice-clauses-requires : tie.Need-choice-clauses-requires
 choice-clauses-requires c κs = search needs
@@ -60,17 +47,16 @@ same-length-2 c = search needs
 returns-2 : tie.Need-returns-2
 returns-2 c =
     let kind = c .before .before .before .before .before in
-    let read = kind .before .before .before .before in
-    rw (kind .kind2 .given .1)
-    (emits-as gateMost (c .before .choice-clauses .ensures)
-    (parity-read (read .read-asked .ensures) (kind .kind2 .given .0 .0) (start read .args .node)
-    (takes-parity _ (kind .kind2 .given .1) (start read .pre .2 .takes-all))) (omega arith))
+    let read = kind .before .before in (
+      rw (kind .kind2 .given .1)
+          (emits-as gateMost (c .before .choice-clauses .ensures)
+          (parity-read (read .read-asked .ensures) (kind .kind2 .given .0 .0) (start read .args .node)
+          (takes-parity _ (kind .kind2 .given .1) (start read .pre .2 .takes-all))) (omega arith)),
+      read .read-asked .ensures .long,
+    )
 
 enum-told : tie.Need-enum-told
 enum-told c = search needs
-
-slice-aggregate-choice-clauses-2 : tie.Need-slice-aggregate-choice-clauses-2
-slice-aggregate-choice-clauses-2 c = search needs
 
 choice-clauses-requires-2 : tie.Need-choice-clauses-requires-2
 choice-clauses-requires-2 c κs = search needs
@@ -81,32 +67,28 @@ same-length-3 c = search needs
 returns-3 : tie.Need-returns-3
 returns-3 c =
     let kind = c .before .before .before .before in
-    let read = kind .before .before .before .before in
-    rw (kind .enum-told .given .1)
-    (emits-as gateMost (c .before .choice-clauses2 .ensures)
-    (mux-read (read .read-asked .ensures) (start read .args .node)
-    (takes-mux _ (kind .enum-told .given .1) (start read .pre .2 .takes-all))) (omega arith))
+    let read = kind .before .before in (
+      rw (kind .enum-told .given .1)
+          (emits-as gateMost (c .before .choice-clauses2 .ensures)
+          (mux-read (read .read-asked .ensures) (start read .args .node)
+          (takes-mux _ (kind .enum-told .given .1) (start read .pre .2 .takes-all))) (omega arith)),
+      read .read-asked .ensures .long,
+    )
 
 pub gate-clauses-spec : {M : Type 1} → statement M
 gate-clauses-spec =
     tie.close
     (tie.spec
-    slice-aggregate-read-asked
-    slice-aggregate-read-asked-2
     read-asked-requires
     enum-known-kind
-    slice-aggregate-simple-clauses
-    slice-aggregate-simple-clauses-2
     simple-clauses-requires
     same-length
     returns
     enum-known-kind-2
-    slice-aggregate-choice-clauses
     choice-clauses-requires
     same-length-2
     returns-2
     enum-told
-    slice-aggregate-choice-clauses-2
     choice-clauses-requires-2
     same-length-3
     returns-3)

@@ -10,7 +10,7 @@ use Rattle.formula.proofs.late_clause.Tie as tie
 returns : tie.Need-returns
 returns c =
     rw (c .if1 .taken)
-    (emits-as _ (emits-none _ _ (c .before .before .before .pre .4 .fewer)) refl (omega arith))
+    (emits-as _ (emits-none _ _ (c .before .pre .2 .fewer)) refl (omega arith))
 
 put-part-requires : tie.Need-put-part-requires
 put-part-requires c κs = search needs

@@ -29,23 +29,17 @@ returns-4 c =
     late-beyond (gate .if1 .left) (positive _ (c .before .if3 .left))
     (omega (arith, gate .before .before .top-at .ensures))
 
-add-result : tie.Need-add-result
-add-result c = search needs
-
 place-of-requires : tie.Need-place-of-requires
 place-of-requires c κs =
-    let later = c .before .before in
+    let later = c .before in
     let read = later .before .before .before in
     let pre = start read .pre in (
       pre .1 .listed (later .before .if1 .left) (positive _ (later .if3 .left)) (omega (arith, read .top-at .ensures)),
       begins-at _ (pre .0 .begins) (omega (arith, pre .1 .node-has, pre .0 .slices .tops-all)),
     )
 
-add-result-2 : tie.Need-add-result-2
-add-result-2 c = search needs
-
-add-result-3 : tie.Need-add-result-3
-add-result-3 c = search needs
+pair-variable-requires : tie.Need-pair-variable-requires
+pair-variable-requires c κs = search needs
 
 mul-result : tie.Need-mul-result
 mul-result c = search needs
@@ -54,8 +48,9 @@ returns-5 : tie.Need-returns-5
 returns-5 c =
     let later = c .before .before .before in
     let read = later .before .before .before in
-    late-pair (start read .pre .0 .slices) (later .before .if1 .left) (positive _ (later .if3 .left))
-    (omega (arith, read .top-at .ensures)) (c .place-of .ensures)
+    rw (c .pair-variable .ensures)
+    (late-pair (start read .pre .0 .slices) (later .before .if1 .left) (positive _ (later .if3 .left))
+    (omega (arith, read .top-at .ensures)) (c .before .place-of .ensures))
 
 pub late-code-spec : {M : Type 1} → statement M
 late-code-spec =
@@ -66,9 +61,7 @@ late-code-spec =
     returns-2
     returns-3
     returns-4
-    add-result
     place-of-requires
-    add-result-2
-    add-result-3
+    pair-variable-requires
     mul-result
     returns-5)

@@ -10,15 +10,15 @@ use Rattle.formula.proofs.put_shares.Statement.{statement}
 use Rattle.formula.proofs.put_shares.Tie as tie
 
 abbrev Inv-loop : tie.InvT-loop
-Inv-loop nodes lates count share own formula₀ to₀ i₀ formula to i =
+Inv-loop nodes lates count share c k own formula₀ to₀ i₀ formula to i =
     (i ≤ count)
-    × E.Emitting shareMost (λ k. shareRun share own (getD nodes k 0) (getD lates k 0)) i formula₀ to₀ formula to
+    × E.Emitting shareMost (λ j. shareRun share c k own (getD nodes j 0) (getD lates j 0)) i formula₀ to₀ formula to
 
 abbrev μ-loop : tie.MeasureT-loop
-μ-loop nodes lates count share own formula₀ to₀ i₀ formula to i = count - i
+μ-loop nodes lates count share c k own formula₀ to₀ i₀ formula to i = count - i
 
 loop-holds : tie.Need-loop-holds Inv-loop μ-loop
-loop-holds c = (omega arith, E.emitting-starts _ _ _ _ (c .before .before .pre .4 .fewer))
+loop-holds c = (omega arith, E.emitting-starts _ _ _ _ (c .pre .2 .fewer))
 
 asked-at-requires : tie.Need-asked-at-requires Inv-loop μ-loop
 asked-at-requires c κs = search needs
@@ -36,11 +36,12 @@ loop-again : tie.Need-loop-again Inv-loop μ-loop
 loop-again c =
     let driver = c .before .before .before in
     let loop = driver .before .before .loop in
-    let args = driver .before .before .before .before .before .args in (
+    let args = driver .before .before .before .args in
+    let read = driver .asked-at .ensures in (
       omega arith,
       E.emitting-more (loop .inv .1)
           (E.emits-as shareMost (c .before .put-share .ensures)
-          (ap₂ (shareRun (args .share) (args .own)) (driver .asked-at .ensures .0) (driver .asked-at .ensures .1))
+          (ap₂ (shareRun (args .share) (args .c) (args .k) (args .own)) (read .0) (read .1))
           (omega arith)),
     )
 
@@ -50,7 +51,7 @@ same-length c = E.emitting-length (c .before .loop .inv .1)
 returns : tie.Need-returns Inv-loop μ-loop
 returns c =
     let loop = c .before .loop in
-    let args = c .before .before .before .before .args in
+    let args = c .before .before .args in
     E.emitting-ends (args .count) (args .count * shareMost) (loop .inv .1) (loop .inv .0) (c .loop-test .left)
     (omega arith)
 

@@ -1,8 +1,6 @@
 -- `formula::read_asked` meets its contract: entry after entry, what it asks for is stored. Assumes nothing.
-use mathlib.Core.Path.{_≡_, refl}
 use Prim.Native.Nat.{_-_, _≤_}
 use native.Mathlib.Omega.{arith}
-use lib.ListN.{length}
 use borrow.Author.Needs.{needs}
 use Rattle.formula.specs.Late.{lent, Reads}
 use Rattle.formula.proofs.Asking.{asks-read, reads-none, reads-more, reads-all}
@@ -11,18 +9,17 @@ use Rattle.formula.proofs.read_asked.Tie as tie
 
 abbrev Inv-loop : tie.InvT-loop
 Inv-loop file shape tops table starts side first count t nodes₀ lates₀ sure₀ i₀ nodes lates sure i =
-    (i ≤ count) × (length nodes ≡ length nodes₀) × (length lates ≡ length lates₀)
-    × Reads file (lent shape tops table) side first i t nodes lates sure
+    (i ≤ count) × Reads file (lent shape tops table) side first i t nodes lates sure
 
 abbrev μ-loop : tie.MeasureT-loop
 μ-loop file shape tops table starts side first count t nodes₀ lates₀ sure₀ i₀ nodes lates sure i =
     count - i
 
 abbrev start : tie.At-loop Inv-loop μ-loop → tie.Start Inv-loop μ-loop
-start c = c .before .before .before .before .before .before .before
+start c = c .before .before .before .before .before
 
 loop-holds : tie.Need-loop-holds Inv-loop μ-loop
-loop-holds c = (omega arith, refl, refl, reads-none _ _ _ _ _ _ _)
+loop-holds c = (omega arith, reads-none _ _ _ _ _ _ _ (c .before .before .before .before .pre .5))
 
 add-moment-at : tie.Need-add-moment-at Inv-loop μ-loop
 add-moment-at c = search needs
@@ -50,31 +47,21 @@ loop-less c = search needs
 
 loop-again : tie.Need-loop-again Inv-loop μ-loop
 loop-again c =
-    let stored = c .before .before .before .before in
-    let late = stored .before .before .before in
+    let late = c .before .before .before in
     let asked = late .before in
     let loop = asked .before .before .loop in
     let pre = start (asked .before .before) .pre in
     let test = asked .before .loop-test .taken in (
       omega arith,
-      search needs,
-      search needs,
-      reads-more (asked .moment-at .result .node) (late .late-code .result) (loop .inv .3)
-          (omega (arith, loop .inv .1, pre .3)) (omega (arith, loop .inv .2, pre .4))
+      reads-more (asked .moment-at .result .node) (late .late-code .result) (loop .inv .1) (omega (arith, pre .3))
           (asked .moment-at .ensures .0) (asked .moment-at .ensures .1) (late .late-code .ensures .is)
-          (stored .store .ensures .0) (stored .store .ensures .1),
+          (c .store .ensures .0) (c .store .ensures .1),
     )
-
-same-length : tie.Need-same-length Inv-loop μ-loop
-same-length c = search needs
-
-same-length-2 : tie.Need-same-length-2 Inv-loop μ-loop
-same-length-2 c = search needs
 
 returns : tie.Need-returns Inv-loop μ-loop
 returns c =
     let loop = c .before .loop in
-    reads-all (start (c .before) .args .count) (loop .inv .3) (loop .inv .0) (c .loop-test .left)
+    reads-all (start (c .before) .args .count) (loop .inv .1) (loop .inv .0) (c .loop-test .left)
 
 pub read-asked-spec : {M : Type 1} → statement M
 read-asked-spec =
@@ -90,6 +77,4 @@ read-asked-spec =
     add-i
     loop-less
     loop-again
-    same-length
-    same-length-2
     returns)

@@ -1,20 +1,22 @@
 -- `pairs::fill` meets its contract: what is found and what is marked are all that is asked for, and at each turn a
 -- bit, a word or a node is done. Assumes nothing.
 use mathlib.Core.Path.{_≡_, refl, ap}
-use Prim.Native.Nat.{ℕ, _+_, _-_, _*_, _%_, _^_, _≤_, _<_}
+use Prim.Native.Nat.{ℕ, _+_, _-_, _*_, _/_, _%_, _^_, _≤_, _<_}
 use native.Mathlib.Omega.{arith}
 use borrow.Author.Needs.{needs}
-use lib.ListN.{length, length-set, take}
+use lib.ListN.{length, set, length-set, take}
 use lib.Pow.{pow-pos}
 use Rattle.settle.specs.Steps.{latest}
 use Rattle.pairs.proofs.Bits.{one-shifted}
 use Rattle.pairs.proofs.Topping.{tops-long}
-use Rattle.pairs.proofs.Filling.{filling-sorted, filling-top}
+use Rattle.pairs.proofs.Filling.{Filling, filling-sorted, filling-ended, filling-top}
 use Rattle.pairs.proofs.Finding.{
   Finding,
   word-less,
   finding-starts,
   finding-next,
+  finding-clear,
+  finding-below,
   finding-down,
   finding-ends,
   finding-time,
@@ -25,11 +27,15 @@ use Rattle.pairs.proofs.fill.Statement.{statement}
 use Rattle.pairs.proofs.fill.Tie as tie
 
 abbrev Inv-loop : tie.InvT-loop
-Inv-loop file shape target tops heads links table₀ marks₀ at₀ f₀ word₀ bits₀ table marks at f word bits =
-    Finding file shape (take (shape .inputs) tops) target table₀ table at f marks word bits × (length marks ≡ length marks₀)
+Inv-loop file shape target tops heads links table₀ marks₀ at₀ f₀ held ends₀ low₀ word₀ bits₀ table marks at f ends low
+    word bits =
+    Finding file shape (take (shape .inputs) tops) target table₀ table ends at f marks low word bits
+    × (length marks ≡ length marks₀)
+    × (length ends ≡ 449)
 
 abbrev μ-loop : tie.MeasureT-loop
-μ-loop file shape target tops heads links table₀ marks₀ at₀ f₀ word₀ bits₀ table marks at f word bits =
+μ-loop file shape target tops heads links table₀ marks₀ at₀ f₀ held ends₀ low₀ word₀ bits₀ table marks at f ends low
+    word bits =
     (f * 10000 + word) * 18446744073709551616 + bits
 
 -- the places: the start, and the turn of a word that is read, of a node that is done, and of a bit that is taken
@@ -39,8 +45,8 @@ start c = c .before .before .before .before .before .before .before .before
 abbrev reads : tie.After-last-word Inv-loop μ-loop → tie.At-loop Inv-loop μ-loop
 reads c = c .before .before .before .before
 
-abbrev lower : tie.After-widen Inv-loop μ-loop → tie.Else3 Inv-loop μ-loop
-lower c = c .before .before
+abbrev lower : tie.After-smaller Inv-loop μ-loop → tie.Else3 Inv-loop μ-loop
+lower c = c .before .before .before .before
 
 abbrev ended : tie.Else3 Inv-loop μ-loop → tie.At-loop Inv-loop μ-loop
 ended c = c .before .before .before .before
@@ -52,12 +58,38 @@ takes c = c .before .before
 word-within : (c : tie.After-last-word Inv-loop μ-loop) → c .last-word .result < length (reads c .loop .marks)
 word-within c = omega (arith, c .last-word .ensures .within, reads c .loop .inv .0 .scanning .room)
 
--- the top of the node below
-lower-top : (c : tie.After-widen Inv-loop μ-loop) → c .widen .result ≤ latest
+-- the top of the node below, or the target
+lower-top : (c : tie.After-smaller Inv-loop μ-loop) →
+    (c .smaller .result ≤ latest) × (c .smaller .result / 64 + 1 < length (ended (lower c) .loop .marks))
 lower-top c =
     let turn = ended (lower c) in
-    filling-top (start turn .pre .0) _ (turn .loop .inv .0 .filling) (lower c .if3 .left) (start turn .pre .1) _
-    (c .widen .ensures .0)
+    let given = start turn .pre in
+    let small =
+    filling-top (given .0) _ (turn .loop .inv .0 .filling) (lower c .if3 .left) (given .1) _
+    (c .before .widen .ensures .0)
+    in
+    let least = c .smaller .ensures in
+    let room = given .4 (c .smaller .result) (omega arith) (omega arith) in
+    (omega arith, omega (arith, turn .loop .inv .1))
+
+-- the place of a node's own
+own-place : (c : tie.Else3 Inv-loop μ-loop) → ended c .loop .f - start (ended c) .args .shape .inputs < 449
+own-place c = omega (arith, ended c .loop .inv .0 .filling .nodes, start (ended c) .pre .0 .holds .counts .gates-few)
+
+-- the node below, of which nothing is found
+lower-filling : (c : tie.After-smaller Inv-loop μ-loop) →
+    let turn = ended (lower c) in
+    let given = start turn .args in
+    Filling (given .file .now) (given .shape) (take (given .shape .inputs) (given .tops .now)) (given .target)
+    (given .table .now) (turn .loop .table)
+    (set (turn .loop .ends) (turn .loop .f - given .shape .inputs) (length (given .table .now) / 2 - turn .loop .at))
+    (turn .loop .at) (turn .loop .f - 1) (c .smaller .result + 1)
+lower-filling c =
+    let turn = ended (lower c) in
+    let given = start turn .pre in
+    finding-below (given .0) _ (turn .loop .inv .0) (lower c .before .before .before .if1 .taken) (omega arith) _ _ _
+    (lower c .if3 .left) (given .1) (c .before .widen .ensures .0) (c .smaller .ensures)
+    (omega (arith, own-place (lower c), turn .loop .inv .2)) refl
 
 -- the time of the highest bit, and the bit as it is shifted
 time : (c : tie.After-highest Inv-loop μ-loop) → takes c .loop .word * 64 + c .highest .result ≤ latest
@@ -73,7 +105,8 @@ add-f c = omega arith
 loop-holds : tie.Need-loop-holds Inv-loop μ-loop
 loop-holds c =
     let given = c .before .before .before .before .before .before .before .pre in
-    (finding-starts (given .0) _ _ _ (given .2) (given .3) (omega (arith, given .4)), refl)
+    let room = given .4 0 (omega arith) (omega arith) in
+    (finding-starts (given .0) _ _ _ _ (given .2) (given .3) (omega arith), refl, refl)
 
 sub-last-word : tie.Need-sub-last-word Inv-loop μ-loop
 sub-last-word c = omega arith
@@ -102,7 +135,7 @@ loop-less : tie.Need-loop-less Inv-loop μ-loop
 loop-less c =
     let turn = reads (c .before) in
     let word = c .before .last-word in
-    word-less (turn .loop .f * 10000) (word .result) (turn .loop .word) _ _
+    word-less (turn .loop .f * 10000 + word .result) (turn .loop .f * 10000 + turn .loop .word) _ _
     (omega (arith, word .ensures .within, c .before .before .before .if2 .taken))
     (c .slice-known3 .given (word .result) .fits)
 
@@ -113,7 +146,23 @@ loop-again c =
       finding-next (start turn .pre .0) _ (turn .loop .inv .0) (some .before .if1 .taken) _ (some .if2 .taken)
           (c .before .last-word .ensures) refl,
       simp length-set (turn .loop .inv .1),
+      turn .loop .inv .2,
     )
+
+sub-ends : tie.Need-sub-ends Inv-loop μ-loop
+sub-ends c = omega (arith, ended c .loop .inv .0 .filling .room)
+
+cast-ends : tie.Need-cast-ends Inv-loop μ-loop
+cast-ends c = omega (arith, start (ended c) .pre .7)
+
+sub-ends-2 : tie.Need-sub-ends-2 Inv-loop μ-loop
+sub-ends-2 c = omega arith
+
+mul-ends : tie.Need-mul-ends Inv-loop μ-loop
+mul-ends c = omega arith
+
+array-write-ends : tie.Need-array-write-ends Inv-loop μ-loop
+array-write-ends c = own-place (c .before)
 
 sub-f : tie.Need-sub-f Inv-loop μ-loop
 sub-f c = omega arith
@@ -123,11 +172,14 @@ mul-widen c = omega arith
 
 shared-slice-read-widen : tie.Need-shared-slice-read-widen Inv-loop μ-loop
 shared-slice-read-widen c =
-    let turn = ended (c .before) in
+    let turn = ended (c .before .before) in
     omega (arith, tops-long (start turn .pre .0) (start turn .pre .1), turn .loop .inv .0 .filling .nodes)
 
 widen-requires : tie.Need-widen-requires Inv-loop μ-loop
 widen-requires c κs = tt
+
+smaller-requires : tie.Need-smaller-requires Inv-loop μ-loop
+smaller-requires c κs = tt
 
 mul-mark-asked : tie.Need-mul-mark-asked Inv-loop μ-loop
 mul-mark-asked c = omega arith
@@ -148,37 +200,43 @@ part-mark-asked-end c = search needs
 
 mark-asked-requires : tie.Need-mark-asked-requires Inv-loop μ-loop
 mark-asked-requires c κs =
-    let below = c .before .before .before in
+    let below = c .before .before .before .before in
     let turn = ended (lower below) in
     let given = start turn .pre in
+    let finding = turn .loop .inv .0 in
     let top = lower-top below in (
-      filling-sorted (given .0) _ (turn .loop .inv .0 .filling),
+      filling-sorted (given .0) _ (finding .filling),
       given .0 .holds,
-      omega (arith, turn .loop .inv .0 .filling .nodes),
+      omega (arith, finding .filling .nodes),
       given .5,
       omega arith,
-      omega (arith, given .4, turn .loop .inv .1),
+      omega arith,
       given .6,
+      filling-ended (given .0) _ (lower-filling below),
+      finding-clear (given .0) _ finding (lower below .before .before .before .if1 .taken) (omega arith),
     )
 
-add-word : tie.Need-add-word Inv-loop μ-loop
-add-word c = omega arith
-
 loop-less-2 : tie.Need-loop-less-2 Inv-loop μ-loop
-loop-less-2 c = omega (arith, lower-top (c .before .before .before .before .before .before))
+loop-less-2 c =
+    let below = c .before .before .before .before .before .before .before in
+    let turn = ended (lower below) in
+    let marked = c .before .before .mark-asked in
+    let empty = lower below .before .before .before .if1 .taken in
+    word-less ((turn .loop .f - 1) * 10000 + marked .result .high) (turn .loop .f * 10000 + turn .loop .word) _ _
+    (omega (arith, lower-top below .0, marked .ensures .1 .within, lower below .if3 .left)) (omega arith)
 
 loop-again-2 : tie.Need-loop-again-2 Inv-loop μ-loop
 loop-again-2 c =
     let marked = c .before .before .mark-asked in
-    let below = c .before .before .before .before .before .before in
+    let below = c .before .before .before .before .before .before .before in
     let turn = ended (lower below) in
     let given = start turn .pre in
     let top = lower-top below in
-    let same = marked .kept .1 .1 .1 .1 .1 .1 .0 in (
+    let same = marked .kept .1 .1 .1 .1 .1 .1 .1 .1 .1 .0 in (
       finding-down (given .0) _ (turn .loop .inv .0) (lower below .before .before .before .if1 .taken) (omega arith) _
-          (lower below .if3 .left) (given .1) (below .widen .ensures .0) (marked .ensures)
-          (omega (arith, given .4, turn .loop .inv .1)),
+          (lower-filling below) (marked .ensures .0) (marked .ensures .1) (omega (arith, marked .ensures .1 .within)),
       omega (arith, turn .loop .inv .1),
+      simp length-set (turn .loop .inv .2),
     )
 
 same-length : tie.Need-same-length Inv-loop μ-loop
@@ -233,6 +291,7 @@ loop-again-3 c =
       finding-more (start turn .pre .0) _ (turn .loop .inv .0) (taken .highest .ensures) _ _ (omega arith)
           (put .ensures .0) (put .ensures .1) (ap (λ (x : ℕ). turn .loop .bits - x) (bit-power taken)),
       turn .loop .inv .1,
+      turn .loop .inv .2,
     )
 
 same-length-3 : tie.Need-same-length-3 Inv-loop μ-loop
@@ -263,17 +322,22 @@ fill-spec =
     slice-write-marks
     loop-less
     loop-again
+    sub-ends
+    cast-ends
+    sub-ends-2
+    mul-ends
+    array-write-ends
     sub-f
     mul-widen
     shared-slice-read-widen
     widen-requires
+    smaller-requires
     mul-mark-asked
     mul-mark-asked-2
     sub-mark-asked
     part-mark-asked-start
     part-mark-asked-end
     mark-asked-requires
-    add-word
     loop-less-2
     loop-again-2
     highest-requires

@@ -9,10 +9,10 @@ use Rattle.pairs.proofs.last_word.Statement.{statement}
 use Rattle.pairs.proofs.last_word.Tie as tie
 
 abbrev Inv-loop : tie.InvT-loop
-Inv-loop marks from word₀ word = (word ≤ from) × ((k : ℕ) → word < k → k ≤ from → getD marks k 0 ≡ 0)
+Inv-loop marks low from word₀ word = (word ≤ from) × ((k : ℕ) → word < k → k ≤ from → getD marks k 0 ≡ 0)
 
 abbrev μ-loop : tie.MeasureT-loop
-μ-loop marks from word₀ word = word
+μ-loop marks low from word₀ word = word
 
 loop-holds : tie.Need-loop-holds Inv-loop μ-loop
 loop-holds c = (omega arith, λ k h i. absurd (omega arith))

@@ -7,21 +7,22 @@ use borrow.Author.Count.{below-more}
 use lib.ListN.{length}
 use Rattle.netlist.specs.File.{outputAt}
 use Rattle.pairs.proofs.Asking.{output-early, output-found, output-none}
+use Rattle.pairs.proofs.Spanning.{spans-one}
 use Rattle.pairs.proofs.mark_output.Statement.{statement}
 use Rattle.pairs.proofs.mark_output.Tie as tie
 
 abbrev Inv-loop : tie.InvT-loop
-Inv-loop file shape target f top marks₀ i₀ marks i =
+Inv-loop file shape target f top marks₀ none i₀ marks i =
     (i ≤ shape .outputs) × (marks ≡ marks₀) × ((k : ℕ) → k < i → outputAt file shape k ≡ f → ⊥)
 
 abbrev μ-loop : tie.MeasureT-loop
-μ-loop file shape target f top marks₀ i₀ marks i = shape .outputs - i
+μ-loop file shape target f top marks₀ none i₀ marks i = shape .outputs - i
 
 returns : tie.Need-returns Inv-loop μ-loop
-returns c = output-early (λ h. omega (arith, c .if1 .taken))
+returns c = (output-early (λ h. omega (arith, c .if1 .taken)), c .before .before .before .pre .3)
 
 returns-2 : tie.Need-returns-2 Inv-loop μ-loop
-returns-2 c = output-early (λ h. c .if2 .taken)
+returns-2 c = (output-early (λ h. c .if2 .taken), c .before .before .before .before .pre .3)
 
 loop-holds : tie.Need-loop-holds Inv-loop μ-loop
 loop-holds c = (omega arith, refl, λ k h. absurd (omega arith))
@@ -41,9 +42,15 @@ same-length c = search needs
 returns-3 : tie.Need-returns-3 Inv-loop μ-loop
 returns-3 c =
     let turn = c .before .before .before .before .before .before .before .before in
-    output-found (turn .loop .i) _ (omega arith) (omega arith) (omega arith)
-    (c .before .before .before .before .before .output-at .ensures .0) (c .before .before .before .before .if4 .taken)
-    (rw (turn .loop .inv .1) at (c .before .before .mark .ensures))
+    let adds = rw (turn .loop .inv .1) at (c .before .before .mark .ensures) in (
+      output-found (turn .loop .i) _ (omega arith) (omega arith) (omega arith)
+          (c .before .before .before .before .before .output-at .ensures .0)
+          (c .before .before .before .before .if4 .taken) adds,
+      spans-one (omega arith) (turn .before .before .before .before .before .pre .2) adds,
+    )
+
+add-high : tie.Need-add-high Inv-loop μ-loop
+add-high c = search needs
 
 add-i : tie.Need-add-i Inv-loop μ-loop
 add-i c = search needs
@@ -63,7 +70,10 @@ same-length-2 : tie.Need-same-length-2 Inv-loop μ-loop
 same-length-2 c = search needs
 
 returns-4 : tie.Need-returns-4 Inv-loop μ-loop
-returns-4 c = rw (c .before .before .loop .inv .1) (output-none (c .before .before .loop .inv .2) (c .if3 .left))
+returns-4 c =
+    let turn = c .before .before in
+    rw (turn .loop .inv .1)
+    (output-none (turn .loop .inv .2) (c .if3 .left), turn .before .before .before .before .before .pre .3)
 
 pub mark-output-spec : {M : Type 1} → statement M
 mark-output-spec =
@@ -76,6 +86,7 @@ mark-output-spec =
     loop-holds
     output-at-requires
     mark-requires
+    add-high
     same-length
     returns-3
     add-i

@@ -7,7 +7,6 @@ use lib.ListN.{length, take}
 use lib.Seq.{length-take-le, length-front}
 use Rattle.pairs.specs.Promise.{pairsAt}
 use Rattle.pairs.proofs.Flat.{zeros-at}
-use Rattle.pairs.proofs.Marking.{no-marks}
 use Rattle.pairs.proofs.Whole.{filled-from, table-held, table-full}
 use Rattle.pairs.proofs.table.Statement.{statement}
 use Rattle.pairs.proofs.table.Tie as tie
@@ -16,13 +15,13 @@ use Rattle.pairs.proofs.table.Tie as tie
 abbrev start : tie.After-holds → tie.Start
 start c = c .before .before .before .before
 
-abbrev sized : tie.After-fill → tie.After-holds
-sized c = c .before .before .before .before .before .before .before .before .before .before
+abbrev sized : tie.After-find → tie.After-holds
+sized c = c .before .before .before .before .before .before .before .before .before
 
-abbrev filled : tie.After-known-told → tie.After-fill
-filled c = c .before .before .before .before .before .before
+abbrev filled : tie.After-known-told → tie.After-find
+filled c = c .before .before .before .before .before
 
--- the part that is lent to fill
+-- the part that is lent to `find`
 lent : (c : tie.After-holds) →
     length (take (c .holds .result * 2) (start c .args .table .now)) ≡ c .holds .result * 2
 lent c = length-take-le _ _ (omega arith)
@@ -36,7 +35,7 @@ room : (c : tie.After-known-told) →
     ≡ sized (filled c) .holds .result
 room c =
     let whole = sized (filled c) in
-    filled-from _ (start whole .args .table .now) _ _ _ (whole .holds .ensures) (filled c .fill .ensures) _
+    filled-from _ (start whole .args .table .now) _ _ _ (whole .holds .ensures) (filled c .find .ensures) _
     (c .before .got .given .1)
 
 holds-requires : tie.Need-holds-requires
@@ -54,36 +53,32 @@ link-requires c κs =
     let counts = given .0 .holds .counts in
     (given .0 .holds, omega (arith, counts .inputs-few, counts .gates-few), search needs, zeros-at 512)
 
-slice-aggregate-fill : tie.Need-slice-aggregate-fill
-slice-aggregate-fill c = search needs
+slice-aggregate-find : tie.Need-slice-aggregate-find
+slice-aggregate-find c = search needs
 
-slice-aggregate-fill-2 : tie.Need-slice-aggregate-fill-2
-slice-aggregate-fill-2 c = search needs
+slice-aggregate-find-2 : tie.Need-slice-aggregate-find-2
+slice-aggregate-find-2 c = search needs
 
-mul-fill : tie.Need-mul-fill
-mul-fill c = search needs
+mul-find : tie.Need-mul-find
+mul-find c = search needs
 
-slice-relend-prefix-fill : tie.Need-slice-relend-prefix-fill
-slice-relend-prefix-fill c = search needs
+slice-relend-prefix-find : tie.Need-slice-relend-prefix-find
+slice-relend-prefix-find c = search needs
 
-slice-aggregate-fill-3 : tie.Need-slice-aggregate-fill-3
-slice-aggregate-fill-3 c = sym (lent (c .before .before .before .before .before .before .before .before))
+slice-aggregate-find-3 : tie.Need-slice-aggregate-find-3
+slice-aggregate-find-3 c = sym (lent (c .before .before .before .before .before .before .before .before))
 
-slice-aggregate-fill-4 : tie.Need-slice-aggregate-fill-4
-slice-aggregate-fill-4 c = search needs
-
-fill-requires : tie.Need-fill-requires
-fill-requires c κs =
-    let linked = c .before .before .before .before .before .before in
+find-requires : tie.Need-find-requires
+find-requires c κs =
+    let linked = c .before .before .before .before .before in
     let whole = linked .before .before .before in
     let given = start whole .pre in (
       given .0,
       given .1,
       omega (arith, lent whole),
-      no-marks 7151,
-      search needs,
       omega (arith, given .0 .holds .counts .inputs-few, given .0 .holds .counts .gates-few),
       linked .link .ensures,
+      omega (arith, lent whole, whole .holds .ensures),
     )
 
 enum-known-got : tie.Need-enum-known-got
@@ -104,8 +99,8 @@ move-down-requires c κs =
     let done = filled told in
     let whole = sized done in
     let table = start whole .args .table .now in
-    let same = done .fill .kept .1 .1 .1 .1 .1 .1 .0 in
-    let long = length-front table (done .fill .last .1 .1 .1 .1 .1 .1 .0) (whole .holds .result * 2) (omega arith) in
+    let same = done .find .kept .1 .1 .1 .1 .1 .1 .0 in
+    let long = length-front table (done .find .last .1 .1 .1 .1 .1 .1 .0) (whole .holds .result * 2) (omega arith) in
     let fits : told .before .got .given .0 .0 * 2 + (whole .holds .result - told .before .got .given .0 .0) * 2
     ≤ length (start whole .args .table .now) =
     omega (arith, room told, whole .holds .ensures)
@@ -133,9 +128,9 @@ returns c =
     let done = filled told in
     let whole = sized done in
     let moved = c .before .before .before .before .before .before in
-    let same = done .fill .kept .1 .1 .1 .1 .1 .1 .0 in
+    let same = done .find .kept .1 .1 .1 .1 .1 .1 .0 in
     let long = moved .move-down .kept in
-    table-held _ (start whole .args .table .now) _ _ _ (whole .holds .ensures) (done .fill .ensures) _ _ _
+    table-held _ (start whole .args .table .now) _ _ _ (whole .holds .ensures) (done .find .ensures) _ _ _
     (told .before .got .given .1) (omega arith) (moved .move-down .ensures) (omega arith)
     (c .before .before .zero-rest-u32 .ensures)
 
@@ -144,10 +139,10 @@ same-length-2 c = search needs
 
 returns-2 : tie.Need-returns-2
 returns-2 c =
-    let done = c .before .before .before .before .before .before .before .before .before in
+    let done = c .before .before .before .before .before .before .before .before in
     let whole = sized done in
-    let same = done .fill .kept .1 .1 .1 .1 .1 .1 .0 in
-    table-full _ (start whole .args .table .now) _ _ _ (whole .holds .ensures) (done .fill .ensures) _
+    let same = done .find .kept .1 .1 .1 .1 .1 .1 .0 in
+    table-full _ (start whole .args .table .now) _ _ _ (whole .holds .ensures) (done .find .ensures) _
     (c .before .before .before .before .enum-told .given .1)
     (omega arith) (c .before .before .zero-rest-u322 .ensures)
 
@@ -159,13 +154,12 @@ table-spec =
     slice-aggregate-link
     slice-aggregate-link-2
     link-requires
-    slice-aggregate-fill
-    slice-aggregate-fill-2
-    mul-fill
-    slice-relend-prefix-fill
-    slice-aggregate-fill-3
-    slice-aggregate-fill-4
-    fill-requires
+    slice-aggregate-find
+    slice-aggregate-find-2
+    mul-find
+    slice-relend-prefix-find
+    slice-aggregate-find-3
+    find-requires
     enum-known-got
     sub-n
     mul-move-down

@@ -1,0 +1,49 @@
+-- `pairs::find` meets its contract: either array has a word for each time up to the target that is no later than the
+-- largest top, and holds no mark. Assumes nothing.
+use native.Mathlib.Omega.{arith}
+use borrow.Author.Needs.{needs}
+use Rattle.pairs.proofs.Marking.{no-marks}
+use Rattle.pairs.proofs.find.Statement.{statement}
+use Rattle.pairs.proofs.find.Tie as tie
+
+slice-aggregate-fill : tie.Need-slice-aggregate-fill
+slice-aggregate-fill c = search needs
+
+fill-requires : tie.Need-fill-requires
+fill-requires c κs =
+    let few = c .before .before .if1 .taken in
+    let given = c .before .before .before .before .before .before .before .before .pre in
+    (given .0, given .1, given .2, no-marks 251, λ t h l. omega arith, given .3, given .4, given .5)
+
+same-length : tie.Need-same-length
+same-length c = search needs
+
+returns : tie.Need-returns
+returns c = search needs
+
+slice-aggregate-fill-2 : tie.Need-slice-aggregate-fill-2
+slice-aggregate-fill-2 c = search needs
+
+fill-requires-2 : tie.Need-fill-requires-2
+fill-requires-2 c κs =
+    let given = c .before .before .before .before .before .before .before .before .pre in
+    (given .0, given .1, given .2, no-marks 7151, λ t h l. omega arith, given .3, given .4, given .5)
+
+same-length-2 : tie.Need-same-length-2
+same-length-2 c = search needs
+
+returns-2 : tie.Need-returns-2
+returns-2 c = search needs
+
+pub find-spec : {M : Type 1} → statement M
+find-spec =
+    tie.close
+    (tie.spec
+    slice-aggregate-fill
+    fill-requires
+    same-length
+    returns
+    slice-aggregate-fill-2
+    fill-requires-2
+    same-length-2
+    returns-2)
