@@ -5,8 +5,9 @@ use libc::STDOUT_FILENO;
 use refusal::Refusal;
 ghost use mathlib.Core.Path.{_≡_};
 ghost use mathlib.Core.Bool.{false};
+ghost use mathlib.Core.List.{_++_};
 ghost use Prim.Native.Nat.{_-_, _*_, _/_, _≤_, min};
-ghost use lib.ListN.{length, take, drop};
+ghost use lib.ListN.{length, drop};
 ghost use Rattle.io.specs.Counts.{Counts};
 ghost use Rattle.console.specs.Reading.{numbersOf, unsignedOf, toldOf, wordOf, Came};
 
@@ -130,7 +131,7 @@ pub fn counted_of(list: &[u8], numbers: &mut [u32]) -> usize
     ensures { λ r. ⌜
         (r ≡ min (min (toldOf (now (list .entry))) ((length (now (list .entry)) - 4) / 4))
         (length (now (numbers .entry))))
-        × (take r (now (numbers .exit)) ≡ unsignedOf (drop 4 (now (list .entry))) r)
+        × (now (numbers .exit) ≡ unsignedOf (drop 4 (now (list .entry))) r ++ drop r (now (numbers .entry)))
         × (r ≤ length (now (numbers .exit)))
         ⌝ }
 {

@@ -1,9 +1,10 @@
 -- `console::counted_of` meets its contract: what is read lies behind the count and has room. Assumes nothing.
 use mathlib.Core.Path.{_≡_, ap, ap₂, sym, _∙_}
+use mathlib.Core.List.{List, _++_}
 use native.Mathlib.Omega.{arith}
 use Prim.Native.Nat.{ℕ, _-_}
-use lib.ListN.{length, take, drop, length-drop, length-append}
-use lib.Seq.{length-take-le, take-at, take-all}
+use lib.ListN.{length, drop, length-drop, length-append}
+use lib.Seq.{length-take-le, take-all}
 use Rattle.console.specs.Reading.{unsignedOf}
 use borrow.Author.Needs.{needs}
 use Rattle.console.proofs.counted_of.Statement.{statement}
@@ -64,7 +65,7 @@ returns-2 c =
     let long : length (read .last .1 .0) ≡ n = read .kept .1 .0 ∙ room in
     let behind = take-all (length (a .list .now) - 4) (drop 4 (a .list .now)) (simp length-drop (omega arith)) in (
       search needs,
-      take-at (read .last .1 .0) (drop n (a .numbers .now)) n long ∙ read .ensures ∙ ap₂ unsignedOf behind room,
+      ap (λ (front : List ℕ). front ++ drop n (a .numbers .now)) (read .ensures ∙ ap₂ unsignedOf behind room),
       omega (arith, long, length-append (read .last .1 .0) (drop n (a .numbers .now))),
     )
 
