@@ -169,8 +169,8 @@ orders =
     ∷ refuses circuitA 0 0 25 (Room 26)
     ∷ refuses circuitA 6 0 26 (Room 27) ∷ []
 
--- late inputs. Circuit A with b at 4, at its top: b is late at 4 outright, and not at 5. An input that is the output and
--- arrives at 7: late outright at 7, and not at 8. Then 16, behind 7 and before 10 and 9
+-- late inputs. Circuit A with b at 4, at its top: b is late at 4 outright, and not at 5. An input that is the output
+-- and arrives at 7: late outright at 7, and not at 8. Then 16, behind 7 and before 10 and 9
 unfoldable pub lateInputs : List Case
 lateInputs =
     buildsWith circuitA (0 ∷ 4 ∷ []) 6 7 13 (3 ∷ 5 ∷ 4 ∷ 6 ∷ [])
@@ -196,7 +196,8 @@ pub edges-hold :
     building (c .file) (c .arrivals) (c .target) (length (c .leaves .pairs)) (length (c .leaves .formula))) edges
     ≡ map (λ (c : Case). c .leaves) edges
 unfolding
-    edges everyKind targets orders lateInputs written oneGate circuitA xorTwice muxOfThree netlistRows arrivalRows firstWrong countWrong
+    edges everyKind targets orders lateInputs written oneGate circuitA xorTwice muxOfThree netlistRows arrivalRows
+    firstWrong countWrong
     backWrong pinsBefore gateWrong gatePlace sumWrong pinsAt pinWrong pinPlace outputWrong outputPlace kinds kindRow
     tableBytes shapeOf gateAt pinAt pinsFrom cellOf cellAt netlistAt grow topsOf flat asked timesAt pairList flatPairs
     pairsFor pairPlace clauseOf gateClauses late pairClauses formula pairVariable formulaFor numbersFor countsFor

@@ -342,8 +342,8 @@ fn refuse(refusal: Refusal, values: &mut [u8], times: &mut [u32]) -> Settled
     Settled::Refused(refusal)
 }
 
-// The evaluation of a file that is accepted with this shape and these arrivals: 8, then 9 for values, then for times, or
-// all values and times. For callers that have opened the file.
+// The evaluation of a file that is accepted with this shape and these arrivals: 8, then 9 for values, then for times,
+// or all values and times. For callers that have opened the file.
 pub fn evaluate_accepted(
     file: &[u8],
     shape: Shape,

@@ -1,6 +1,5 @@
--- `settle::evaluate` meets its contract: the checks of the file and the arrivals, and then the evaluation of an accepted
--- file.
--- Assumes nothing.
+-- `settle::evaluate` meets its contract: the checks of the file and the arrivals, and then the evaluation of an
+-- accepted file. Assumes nothing.
 use mathlib.Core.Path.{sym, _∙_}
 use borrow.Author.Needs.{needs}
 use lib.ListN.{length}
