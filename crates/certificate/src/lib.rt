@@ -136,7 +136,7 @@ pub fn judge(
     ensures { λ r. ⌜ (r ≡ Passes →
         Largest (circuitOf (now (file .entry)) (now (arrivals .entry))) delay) ⌝ }
 {
-    let opened = netlist::open_circuit(file, arrivals);
+    let opened = netlist::arrived(netlist::open(file), arrivals);
     match opened {
         Opened::Refused(refusal) => refuse(refusal, values, times, pairs, formula, propagation),
         Opened::Accepted(shape) => {

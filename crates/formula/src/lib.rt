@@ -975,7 +975,7 @@ pub fn build(
         (length (now (formula .entry)))) r (now (pairs .exit)) (now (formula .exit))
         ⌝ }
 {
-    let opened = netlist::open_circuit(file, arrivals);
+    let opened = netlist::arrived(netlist::open(file), arrivals);
     match opened {
         netlist::Opened::Accepted(shape) => {
             return build_from(file, shape, arrivals, target, pairs, formula);

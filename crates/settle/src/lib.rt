@@ -379,7 +379,7 @@ pub fn evaluate(
         (length (now (values .entry))) (length (now (times .entry)))) r
         (now (values .exit)) (now (times .exit)) ⌝ }
 {
-    let opened = netlist::open_circuit(file, arrivals);
+    let opened = netlist::arrived(netlist::open(file), arrivals);
     match opened {
         Opened::Accepted(shape) => evaluate_accepted(file, shape, arrivals, vector, values, times),
         Opened::Refused(refusal) => refuse(refusal, values, times),
