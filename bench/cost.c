@@ -1,8 +1,8 @@
 /* Calls one function of the library, or of its twin in C, a given number of times on a case read from files, so that a
  * counter of instructions can tell what a call costs: the cost of two runs' difference. Prints the answer's numbers.
  *
- *     cost library|twin evaluate TIMES netlist vector
- *     cost library|twin build TIMES netlist TARGET PAIRS NUMBERS      (room in elements)
+ *     cost library|twin evaluate TIMES netlist arrivals vector
+ *     cost library|twin build TIMES netlist arrivals TARGET PAIRS NUMBERS     (room in elements)
  *     cost library|twin check TIMES VARIABLES formula refutation
  *     cost library|twin zero TIMES ELEMENTS                           (a refused call that lends so many numbers)
  */
@@ -12,9 +12,10 @@
 #include <stdlib.h>
 #include <string.h>
 
-buzzlumen_evaluated twin_evaluate(const uint8_t *, size_t, const uint8_t *, size_t, uint8_t *, size_t, uint32_t *,
-                                  size_t);
-buzzlumen_built twin_build(const uint8_t *, size_t, uint32_t, uint32_t *, size_t, int32_t *, size_t);
+buzzlumen_evaluated twin_evaluate(const uint8_t *, size_t, const uint32_t *, size_t, const uint8_t *, size_t, uint8_t *,
+                                  size_t, uint32_t *, size_t);
+buzzlumen_built twin_build(const uint8_t *, size_t, const uint32_t *, size_t, uint32_t, uint32_t *, size_t, int32_t *,
+                           size_t);
 buzzlumen_checked twin_check(uint32_t, const int32_t *, size_t, const int32_t *, size_t, uint8_t *, size_t);
 
 /* A file's bytes and their number. */
@@ -54,28 +55,30 @@ static size_t number(const char *word)
 
 static int evaluate(int twin, size_t times, char **words)
 {
-    contents netlist = read_file(words[0]), vector = read_file(words[1]);
+    contents netlist = read_file(words[0]), arrivals = read_file(words[1]), vector = read_file(words[2]);
     uint8_t *values = room(512);
     uint32_t *settled = room(512 * sizeof *settled);
     buzzlumen_evaluated answer = {0, 0, 0};
     for (size_t i = 0; i < times; i++)
-        answer = (twin ? twin_evaluate : buzzlumen_evaluate)(netlist.bytes, netlist.length, vector.bytes,
-                                                             vector.length, values, 512, settled, 512);
+        answer = (twin ? twin_evaluate : buzzlumen_evaluate)(netlist.bytes, netlist.length,
+                                                             (const uint32_t *)arrivals.bytes, arrivals.length / 4,
+                                                             vector.bytes, vector.length, values, 512, settled, 512);
     printf("%u %u %llu\n", answer.number, answer.time, (unsigned long long)answer.place);
     return 0;
 }
 
 static int build(int twin, size_t times, char **words)
 {
-    contents netlist = read_file(words[0]);
-    uint32_t target = (uint32_t)number(words[1]);
-    size_t pairs = number(words[2]), numbers = number(words[3]);
+    contents netlist = read_file(words[0]), arrivals = read_file(words[1]);
+    uint32_t target = (uint32_t)number(words[2]);
+    size_t pairs = number(words[3]), numbers = number(words[4]);
     uint32_t *table = room(pairs * sizeof *table);
     int32_t *formula = room(numbers * sizeof *formula);
     buzzlumen_built answer = {0, 0, 0, 0, 0, 0};
     for (size_t i = 0; i < times; i++)
-        answer = (twin ? twin_build : buzzlumen_build)(netlist.bytes, netlist.length, target, table, pairs, formula,
-                                                       numbers);
+        answer = (twin ? twin_build : buzzlumen_build)(netlist.bytes, netlist.length,
+                                                       (const uint32_t *)arrivals.bytes, arrivals.length / 4, target,
+                                                       table, pairs, formula, numbers);
     printf("%u %llu %llu %llu\n", answer.number, (unsigned long long)answer.pairs,
            (unsigned long long)answer.clauses, (unsigned long long)answer.numbers);
     return 0;
@@ -102,7 +105,8 @@ static int zero(int twin, size_t times, char **words)
     int32_t *formula = room(elements * sizeof *formula);
     buzzlumen_built answer = {0, 0, 0, 0, 0, 0};
     for (size_t i = 0; i < times; i++)
-        answer = (twin ? twin_build : buzzlumen_build)((const uint8_t *)"", 0, 0, table, elements, formula, elements);
+        answer = (twin ? twin_build : buzzlumen_build)((const uint8_t *)"", 0, (const uint32_t *)table, 0, 0, table,
+                                                       elements, formula, elements);
     printf("%u %llu\n", answer.number, (unsigned long long)answer.place);
     return 0;
 }

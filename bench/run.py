@@ -97,43 +97,60 @@ def numbers(values):
     return struct.pack(f"<{len(values)}i", *values)
 
 
+def arrival_times(values):
+    """Arrivals as bytes."""
+    return struct.pack(f"<{len(values)}I", *values)
+
+
 def evaluation_cases(folder, dice):
-    """The largest netlist, and smaller ones."""
+    """A small netlist and the largest, with inputs in time; and the largest with late ones."""
     netlists = ("a small netlist", methods.random_netlist(dice, 6, 40)), ("the largest", methods.largest_netlist(dice))
     for name, netlist in netlists:
-        data = document.write_netlist(netlist)
         vector = bytes(methods.random_vector(dice, netlist.inputs))
-        pins = sum(len(gate.pins) for gate in netlist.gates)
-        yield (f"evaluate, {name}: {len(netlist.gates)} gates, {pins:,} pins", "evaluate",
-               [write(folder, "netlist", data), write(folder, "vector", vector)], 20, (len(netlist.gates), "gate"))
+        yield evaluation_case(folder, name, netlist, methods.in_time(netlist), vector)
+    arrivals = [dice.randint(0, document.MOST_ARRIVAL) for _ in range(netlist.inputs)]
+    yield evaluation_case(folder, "late inputs", netlist, arrivals, vector)
+
+
+def evaluation_case(folder, name, netlist, arrivals, vector):
+    """A netlist with its arrivals under a vector."""
+    pins = sum(len(gate.pins) for gate in netlist.gates)
+    files = [write(folder, "netlist", document.write_netlist(netlist)),
+             write(folder, "arrivals", arrival_times(arrivals)), write(folder, "vector", vector)]
+    return (f"evaluate, {name}: {len(netlist.gates)} gates, {pins:,} pins", "evaluate", files, 20,
+            (len(netlist.gates), "gate"))
 
 
 def building_cases(folder, dice, quick, program):
-    """Formulas of 1,000, 10,000 and 65,536 pairs; of the largest netlist; and of a node that drives 1,500 pins."""
+    """Formulas of 1,000, 10,000 and 65,536 pairs; of the largest netlist, also with late inputs; and of a node that
+    drives 1,500 pins.
+    """
     for pairs in (1000, 10000) if quick else (1000, 10000, 65536):
         netlist = methods.ladders_for_pairs(dice, pairs)
         yield building_case(folder, program, f"{pairs:,} pairs", netlist, methods.LADDER_TARGET)
     netlist = varied_netlist(dice)
     yield building_case(folder, program, "the largest netlist at 3/4 of its top", netlist, top(netlist) * 3 // 4)
+    yield building_case(folder, program, "the same, each input at 1,000", netlist, top(netlist) * 3 // 4 + 1000, 1000)
     netlist = wide_driver(dice)
     for quarters in 1, 2, 3:
         yield building_case(folder, program, f"1,500 readers at {quarters}/4 of the top", netlist,
                             top(netlist) * quarters // 4)
 
 
-def building_case(folder, program, name, netlist, target):
+def building_case(folder, program, name, netlist, target, arrival=0):
     """A formula in just the room that it needs, since zeroing more is the same for all; or refused for its pairs."""
-    path = write(folder, "netlist", document.write_netlist(netlist))
+    given = [write(folder, "netlist", document.write_netlist(netlist)),
+             write(folder, "arrivals", arrival_times([arrival] * netlist.inputs)), str(target)]
 
     def answer(pairs, numbers):
-        run = subprocess.run([*tools.runner(), program, "library", "build", "1", path, str(target), str(pairs),
-                              str(numbers)], capture_output=True, text=True, check=True)
+        run = subprocess.run([*tools.runner(), program, "library", "build", "1", *given, str(pairs), str(numbers)],
+                             capture_output=True, text=True, check=True)
         return map(int, run.stdout.split())
     most = 2 * document.MOST_PAIRS
     number, pairs, _, numbers = answer(most, 90_000_000 // 16)
     if number == document.PAIRS:
-        return f"build, {name}: refused", "build", [path, str(target), str(most), "0"], 1, (document.MOST_PAIRS, "pair")
-    arguments = [path, str(target), str(2 * pairs), str(numbers)]
+        return f"build, {name}: refused", "build", [*given, str(most), "0"], 1, (document.MOST_PAIRS, "pair")
+    arguments = [*given, str(2 * pairs), str(numbers)]
     return f"build, {name}: {pairs:,} pairs", "build", arguments, 1, (pairs, "pair")
 
 

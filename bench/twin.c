@@ -20,7 +20,7 @@
 
 enum { BUF = 1, NOT, AND, NAND, OR, NOR, XOR, XNOR, MUX };
 enum { TRAILER = 14, MOST_NODES = 512, MOST_DELAY = 999, MOST_PAIRS = 65536, MOST_VARIABLES = 100000 };
-enum { MOST_INPUTS = 64, MOST_GATES = 448, MOST_PINS = 2048, MOST_OUTPUTS = 64 };
+enum { MOST_INPUTS = 64, MOST_GATES = 448, MOST_PINS = 2048, MOST_OUTPUTS = 64, MOST_ARRIVAL = 9999 };
 
 /* A refusal, or number 0. */
 typedef struct {
@@ -36,10 +36,11 @@ static refusal refuse(uint32_t number, uint64_t place)
     return r;
 }
 
-/* The netlist file: the tables stay where they are, in the caller's bytes. */
+/* The netlist file and the arrivals: the tables stay where they are, in the caller's bytes. */
 
 typedef struct {
     const uint8_t *gates, *pins, *outputs;
+    const uint32_t *arrivals;
     uint32_t inputs, gate_count, pin_count, output_count;
 } netlist;
 
@@ -176,8 +177,20 @@ static refusal check_outputs(const netlist *n)
     return none;
 }
 
-/* Checks 1 to 7. */
-static refusal open_netlist(netlist *n, const uint8_t *data, size_t length)
+static refusal check_arrivals(netlist *n, const uint32_t *arrivals, size_t length)
+{
+    if (length != n->inputs)
+        return refuse(BUZZLUMEN_ARRIVAL, n->inputs);
+    for (size_t i = 0; i < length; i++)
+        if (arrivals[i] > MOST_ARRIVAL)
+            return refuse(BUZZLUMEN_ARRIVAL, i);
+    n->arrivals = arrivals;
+    return none;
+}
+
+/* Checks 1 to 7, then 16. */
+static refusal open_netlist(netlist *n, const uint8_t *data, size_t length, const uint32_t *arrivals,
+                            size_t arrivals_length)
 {
     refusal r = read_trailer(n, data, length);
     if (r.number == 0)
@@ -186,6 +199,8 @@ static refusal open_netlist(netlist *n, const uint8_t *data, size_t length)
         r = check_pins(n);
     if (r.number == 0)
         r = check_outputs(n);
+    if (r.number == 0)
+        r = check_arrivals(n, arrivals, arrivals_length);
     return r;
 }
 
@@ -237,10 +252,8 @@ static void settle_other(const netlist *n, gate it, uint32_t node, uint8_t *valu
 /* All nodes; gives the time at which the circuit settles. */
 static uint32_t settle(const netlist *n, const uint8_t *vector, uint8_t *values, uint32_t *times)
 {
-    for (uint32_t i = 0; i < n->inputs; i++) {
-        values[i] = vector[i];
-        times[i] = 0;
-    }
+    memcpy(values, vector, n->inputs);
+    memcpy(times, n->arrivals, n->inputs * sizeof *times);
     for (uint32_t g = 0; g < n->gate_count; g++) {
         gate it = gate_at(n, g);
         if (is_simple(it.kind))
@@ -259,7 +272,7 @@ static uint32_t settle(const netlist *n, const uint8_t *vector, uint8_t *values,
  * which stand in the table's end already; read from the highest mark down they are the node's pairs.
  */
 
-enum { MOST_TOP = MOST_GATES * MOST_DELAY, WORD = 64, WORDS = MOST_TOP / WORD + 1, NO_PIN = MOST_PINS };
+enum { MOST_TOP = MOST_GATES * MOST_DELAY + MOST_ARRIVAL, WORD = 64, WORDS = MOST_TOP / WORD + 1, NO_PIN = MOST_PINS };
 
 /* What a search for pairs and the writing of a formula both need. */
 typedef struct {
@@ -282,7 +295,7 @@ typedef struct {
 
 static void find_tops(const netlist *n, uint32_t *tops)
 {
-    memset(tops, 0, n->inputs * sizeof *tops);
+    memcpy(tops, n->arrivals, n->inputs * sizeof *tops);
     for (uint32_t g = 0; g < n->gate_count; g++) {
         gate it = gate_at(n, g);
         uint32_t top = 0;
@@ -479,9 +492,10 @@ static void write_gate(writer *w, const netlist *n, uint32_t g)
         write_parity(w, n, it, n->inputs + g);
 }
 
-/* A pin of a gate whose pairs are written: what drives it, and how far its driver's pairs have been passed. */
+/* A pin of a gate whose pairs are written: what drives it, up to when its driver is surely late, and how far its
+ * driver's pairs have been passed. */
 typedef struct {
-    uint32_t driver, delay;
+    uint32_t driver, delay, surely;
     size_t next, end;
     int32_t late; /* "driver late" as a literal, or one of the two below */
 } pin;
@@ -509,14 +523,16 @@ static size_t place_after(const uint32_t *table, size_t at, size_t end, uint32_t
 
 static pin pin_of(const lateness *l, uint32_t driver, uint32_t delay)
 {
-    pin it = {driver, delay, l->starts[driver], l->starts[driver + 1], NOT_LATE};
+    uint32_t surely = driver < l->n->inputs ? l->tops[driver] + delay : delay;
+    pin it = {driver, delay, surely, l->starts[driver], l->starts[driver + 1], NOT_LATE};
     return it;
 }
 
-/* "Driver late at t less the delay". The times of a gate's pairs rise, so that those passed need not be seen again. */
+/* "Driver late at t less the delay". An input has no pairs: it is surely late up to its top, its arrival, and not late
+ * above. The times of a gate's pairs rise, so that those passed need not be seen again. */
 static int32_t late(const lateness *l, const uint32_t *table, pin *p, uint32_t t)
 {
-    if (t <= p->delay)
+    if (t <= p->surely)
         return IS_LATE;
     if (t - p->delay > l->tops[p->driver])
         return NOT_LATE;
@@ -527,8 +543,8 @@ static int32_t late(const lateness *l, const uint32_t *table, pin *p, uint32_t t
     return (int32_t)(nodes_of(l->n) + 1 + p->next);
 }
 
-/* The clauses of a pair (rule F12): some driver is late, left out where one surely is; then, where the gate is simple, a
- * clause for each pin. */
+/* The clauses of a pair (rule F12): some driver is late, left out where one surely is; then, where the gate is simple,
+ * a clause for each pin. */
 static void write_pair(writer *w, gate it, const pin *pins, int32_t variable, int some_surely)
 {
     if (!some_surely) {
@@ -576,11 +592,14 @@ static void write_formula(writer *w, const lateness *l, const uint32_t *table)
         write_gate(w, n, g);
     for (uint32_t g = 0; g < n->gate_count; g++)
         write_pairs(w, l, table, g);
-    if (l->target == 0)
-        return;
+    size_t before = w->numbers;
     for (uint32_t q = 0; q < n->output_count; q++) {
         pin it = pin_of(l, output_at(n, q), 0);
         int32_t literal = late(l, table, &it, l->target);
+        if (literal == IS_LATE) {
+            w->numbers = before;
+            return;
+        }
         if (literal != NOT_LATE)
             put(w, literal);
     }
@@ -776,13 +795,14 @@ static refusal evaluate_opened(const netlist *n, const uint8_t *vector, size_t v
 /* The four functions. */
 
 buzzlumen_evaluated NAMED(evaluate)(const uint8_t *netlist_bytes, size_t netlist_length,
+                                    const uint32_t *arrivals, size_t arrivals_length,
                                     const uint8_t *vector, size_t vector_length,
                                     uint8_t *values, size_t values_length,
                                     uint32_t *times, size_t times_length)
 {
     netlist n;
     uint32_t time = 0;
-    refusal r = open_netlist(&n, netlist_bytes, netlist_length);
+    refusal r = open_netlist(&n, netlist_bytes, netlist_length, arrivals, arrivals_length);
     if (r.number == 0)
         r = evaluate_opened(&n, vector, vector_length, values, values_length, times, times_length, &time);
     if (r.number != 0) {
@@ -795,13 +815,14 @@ buzzlumen_evaluated NAMED(evaluate)(const uint8_t *netlist_bytes, size_t netlist
 }
 
 buzzlumen_built NAMED(build)(const uint8_t *netlist_bytes, size_t netlist_length,
+                             const uint32_t *arrivals, size_t arrivals_length,
                              uint32_t target,
                              uint32_t *pairs, size_t pairs_length,
                              int32_t *formula, size_t formula_length)
 {
     netlist n;
     buzzlumen_built answer = {0, 0, 0, 0, 0, 0};
-    refusal r = open_netlist(&n, netlist_bytes, netlist_length);
+    refusal r = open_netlist(&n, netlist_bytes, netlist_length, arrivals, arrivals_length);
     if (r.number == 0)
         r = build_opened(&n, target, pairs, pairs_length, formula, formula_length, &answer);
     if (r.number != 0) {
@@ -828,6 +849,7 @@ buzzlumen_checked NAMED(check)(uint32_t variables,
 }
 
 buzzlumen_judged NAMED(judge)(const uint8_t *netlist_bytes, size_t netlist_length,
+                              const uint32_t *arrivals, size_t arrivals_length,
                               uint32_t delay,
                               const uint8_t *vector, size_t vector_length,
                               const int32_t *refutation, size_t refutation_length,
@@ -840,7 +862,7 @@ buzzlumen_judged NAMED(judge)(const uint8_t *netlist_bytes, size_t netlist_lengt
     netlist n;
     uint32_t time = 0;
     buzzlumen_built built = {0, 0, 0, 0, 0, 0};
-    refusal r = open_netlist(&n, netlist_bytes, netlist_length);
+    refusal r = open_netlist(&n, netlist_bytes, netlist_length, arrivals, arrivals_length);
     if (r.number == 0)
         r = evaluate_opened(&n, vector, vector_length, values, values_length, times, times_length, &time);
     if (r.number == 0 && time != delay)

@@ -4,12 +4,15 @@
  * (4 bytes), its length (8 bytes) and its elements. The forms:
  *   1  a number: the length is its value, and no elements follow;
  *   2  bytes to read;               3  numbers of 32 bits to read;
- *   4  bytes lent for writing;      5  numbers of 32 bits lent for writing: no elements follow.
- * An answer is the count of its fields (4 bytes), the fields (8 bytes each), then each lent slice as its length
- * (8 bytes) and its elements. All numbers are little endian. Arguments stand in the header's order, and so do fields.
+ *   4  bytes lent for writing;      5  numbers of 32 bits lent for writing: no elements follow;
+ *   6  and 7  the same, for work alone: what was written there is not given back.
+ * An answer is the count of its fields (4 bytes), the fields (8 bytes each), then each slice of form 4 or 5 as its
+ * length (8 bytes) and its elements. All numbers are little endian. Arguments stand in the header's order, and so do
+ * fields.
  *
- * Beside the library's four functions there are three for a search: a refutation without the steps that it does not
- * need, a walk over all vectors, and a formula written to a file as DIMACS CNF.
+ * Beside the library's four functions there are six for a search: a refutation without the steps that it does not need,
+ * of a formula or of a netlist's formula for a target; a walk over all vectors, the times of some, a vector with fewer
+ * ones; and a formula written to a file as DIMACS CNF. Where one takes a netlist, its arrivals come right behind it.
  *
  * One process answers any number of requests and ends with its input: 0 there, 2 where a request does not read, 3 where
  * the answer cannot be written, 4 where memory is short. Assumes a little endian machine.
@@ -21,8 +24,8 @@
 #include <stdlib.h>
 #include <string.h>
 
-enum { EVALUATE = 1, BUILD, CHECK, JUDGE, SHORTEN, WALK, WRITE_FORMULA };
-enum { NUMBER = 1, BYTES, WORDS, LENT_BYTES, LENT_WORDS };
+enum { EVALUATE = 1, BUILD, CHECK, JUDGE, SHORTEN, WALK, WRITE_FORMULA, SHORTEN_FOR, TIMES_OF, FEWER_ONES };
+enum { NUMBER = 1, BYTES, WORDS, LENT_BYTES, LENT_WORDS, WORK_BYTES, WORK_WORDS };
 enum { MOST_ARGUMENTS = 16, MOST_FIELDS = 8, MOST_NODES = 512, MOST_INPUTS = 64 };
 enum { REQUEST_DOES_NOT_READ = 2, ANSWER_NOT_WRITTEN = 3, MEMORY_IS_SHORT = 4 };
 
@@ -51,10 +54,15 @@ static void give(const void *from, size_t bytes)
 
 static size_t bytes_in(const argument *it)
 {
-    size_t element = it->form == WORDS || it->form == LENT_WORDS ? 4 : 1;
+    size_t element = it->form == WORDS || it->form == LENT_WORDS || it->form == WORK_WORDS ? 4 : 1;
     if (it->length > SIZE_MAX / 8)
         exit(MEMORY_IS_SHORT);
     return it->form == NUMBER ? 0 : it->length * element;
+}
+
+static int is_lent(const argument *it)
+{
+    return it->form == LENT_BYTES || it->form == LENT_WORDS;
 }
 
 /* One argument: a number, or a slice in a block of its own, never null. */
@@ -62,9 +70,9 @@ static void take_argument(argument *it)
 {
     take(&it->form, sizeof it->form);
     take(&it->length, sizeof it->length);
-    if (it->form < NUMBER || it->form > LENT_WORDS)
+    if (it->form < NUMBER || it->form > WORK_WORDS)
         exit(REQUEST_DOES_NOT_READ);
-    it->start = calloc(1, bytes_in(it) + 1);
+    it->start = is_lent(it) ? calloc(1, bytes_in(it) + 1) : malloc(bytes_in(it) + 1);
     if (it->start == NULL)
         exit(MEMORY_IS_SHORT);
     if (it->form == BYTES || it->form == WORDS)
@@ -87,7 +95,7 @@ static void give_answer(void)
     give(fields, field_count * sizeof fields[0]);
     for (uint32_t i = 0; i < argument_count; i++) {
         argument *it = &arguments[i];
-        if (it->form == LENT_BYTES || it->form == LENT_WORDS) {
+        if (is_lent(it)) {
             give(&it->length, sizeof it->length);
             give(it->start, bytes_in(it));
         }
@@ -110,9 +118,9 @@ static void field(uint64_t value)
 
 static void evaluate(void)
 {
-    take_arguments(4);
+    take_arguments(5);
     buzzlumen_evaluated answer =
-        buzzlumen_evaluate(SOME_BYTES(0), SOME_BYTES(1), SOME_BYTES(2), SOME_WORDS(3));
+        buzzlumen_evaluate(SOME_BYTES(0), SOME_WORDS(1), SOME_BYTES(2), SOME_BYTES(3), SOME_WORDS(4));
     field(answer.number);
     field(answer.place);
     field(answer.time);
@@ -120,9 +128,11 @@ static void evaluate(void)
 
 static void build(void)
 {
-    take_arguments(4);
+    take_arguments(5);
     buzzlumen_built answer =
-        buzzlumen_build(SOME_BYTES(0), A_NUMBER(1), SOME_WORDS(2), SOME_SIGNED(3));
+        buzzlumen_build(SOME_BYTES(0), SOME_WORDS(1), A_NUMBER(2), SOME_WORDS(3), SOME_SIGNED(4));
+    arguments[3].length = 2 * answer.pairs;
+    arguments[4].length = answer.numbers;
     field(answer.number);
     field(answer.place);
     field(answer.variables);
@@ -142,10 +152,10 @@ static void check(void)
 
 static void judge(void)
 {
-    take_arguments(9);
+    take_arguments(10);
     buzzlumen_judged answer =
-        buzzlumen_judge(SOME_BYTES(0), A_NUMBER(1), SOME_BYTES(2), SOME_SIGNED(3),
-                        SOME_BYTES(4), SOME_WORDS(5), SOME_WORDS(6), SOME_SIGNED(7), SOME_BYTES(8));
+        buzzlumen_judge(SOME_BYTES(0), SOME_WORDS(1), A_NUMBER(2), SOME_BYTES(3), SOME_SIGNED(4),
+                        SOME_BYTES(5), SOME_WORDS(6), SOME_WORDS(7), SOME_SIGNED(8), SOME_BYTES(9));
     field(answer.number);
     field(answer.place);
 }
@@ -154,34 +164,87 @@ static void judge(void)
 static void leave_out_steps(void)
 {
     take_arguments(4);
-    field(shorten(A_NUMBER(0), SOME_SIGNED(1), SOME_SIGNED(2), arguments[3].start));
+    arguments[3].length = shorten(A_NUMBER(0), SOME_SIGNED(1), SOME_SIGNED(2), arguments[3].start);
+}
+
+/* The same for a refutation of a netlist's formula for a target, which is built in the room for work. */
+static void leave_out_steps_for(void)
+{
+    take_arguments(7);
+    buzzlumen_built answer =
+        buzzlumen_build(SOME_BYTES(0), SOME_WORDS(1), A_NUMBER(2), SOME_WORDS(4), SOME_SIGNED(5));
+    arguments[6].length = answer.number != 0 ? 0 : shorten(answer.variables, arguments[5].start, answer.numbers,
+                                                           SOME_SIGNED(3), arguments[6].start);
+    field(answer.number);
+    field(answer.place);
+}
+
+/* How the netlist of a request settles, with its arrivals, under a vector; the nodes' values and times are left
+ * aside. */
+static buzzlumen_evaluated settle(const uint8_t *vector, size_t inputs)
+{
+    static uint8_t values[MOST_NODES];
+    static uint32_t times[MOST_NODES];
+    return buzzlumen_evaluate(SOME_BYTES(0), SOME_WORDS(1), vector, inputs, values, MOST_NODES, times, MOST_NODES);
 }
 
 /* Of all vectors of so many inputs, input 0 most significant and 0 before 1, the first that settles
  * latest, or the first that settles at a given time or later. */
 static void walk(void)
 {
-    static uint8_t vector[MOST_INPUTS], values[MOST_NODES];
-    static uint32_t times[MOST_NODES];
+    static uint8_t vector[MOST_INPUTS];
     buzzlumen_evaluated answer = {0, 0, 0}, best = {0, 0, 0};
-    take_arguments(4);
-    size_t inputs = arguments[3].length;
+    take_arguments(5);
+    size_t inputs = arguments[4].length;
     if (inputs > MOST_INPUTS - 1)
         exit(REQUEST_DOES_NOT_READ);
     for (uint64_t each = 0; each >> inputs == 0 && answer.number == 0; each++) {
         for (size_t i = 0; i < inputs; i++)
             vector[i] = each >> (inputs - 1 - i) & 1;
-        answer = buzzlumen_evaluate(SOME_BYTES(0), vector, inputs, values, MOST_NODES, times, MOST_NODES);
+        answer = settle(vector, inputs);
         if (each == 0 || answer.time > best.time) {
             best = answer;
-            memcpy(arguments[3].start, vector, inputs);
+            memcpy(arguments[4].start, vector, inputs);
         }
-        if (best.time >= A_NUMBER(1) && A_NUMBER(2))
+        if (best.time >= A_NUMBER(2) && A_NUMBER(3))
             break;
     }
     field(answer.number);
     field(answer.place);
     field(best.time);
+}
+
+/* The settling times of some vectors of so many inputs, which stand one behind the other. */
+static void times_of(void)
+{
+    buzzlumen_evaluated answer = {0, 0, 0};
+    take_arguments(5);
+    size_t inputs = A_NUMBER(3), count = arguments[4].length;
+    if (arguments[2].length != inputs * count)
+        exit(REQUEST_DOES_NOT_READ);
+    for (size_t i = 0; i < count && answer.number == 0; i++) {
+        answer = settle((uint8_t *)arguments[2].start + i * inputs, inputs);
+        ((uint32_t *)arguments[4].start)[i] = answer.time;
+    }
+    field(answer.number);
+    field(answer.place);
+}
+
+/* A vector that settles at a time, with a 0 for each of its ones that can go, in order, while it still does. */
+static void fewer_ones(void)
+{
+    take_arguments(5);
+    uint8_t *vector = arguments[4].start;
+    size_t inputs = arguments[4].length;
+    if (arguments[3].length != inputs)
+        exit(REQUEST_DOES_NOT_READ);
+    memcpy(vector, arguments[3].start, inputs);
+    for (size_t i = 0; i < inputs; i++) {
+        if (vector[i] != 0) {
+            vector[i] = 0;
+            vector[i] = settle(vector, inputs).time != A_NUMBER(2);
+        }
+    }
 }
 
 /* A number and what stands behind it as text; gives the place behind. */
@@ -224,18 +287,17 @@ static int write_clauses(FILE *file, const int32_t *numbers, size_t length)
  * field is 0 where the file took it all. */
 static void write_formula(void)
 {
-    take_arguments(5);
+    take_arguments(6);
     buzzlumen_built answer =
-        buzzlumen_build(SOME_BYTES(0), A_NUMBER(1), SOME_WORDS(3), SOME_SIGNED(4));
+        buzzlumen_build(SOME_BYTES(0), SOME_WORDS(1), A_NUMBER(2), SOME_WORDS(4), SOME_SIGNED(5));
     int wrong = 0;
     if (answer.number == 0) {
-        FILE *file = fopen(arguments[2].start, "w");
+        FILE *file = fopen(arguments[3].start, "w");
         wrong = file == NULL ||
                 fprintf(file, "p cnf %u %llu\n", answer.variables, (unsigned long long)answer.clauses) < 0 ||
-                write_clauses(file, arguments[4].start, answer.numbers) != 0;
+                write_clauses(file, arguments[5].start, answer.numbers) != 0;
         wrong |= file != NULL && fclose(file) != 0;
     }
-    arguments[3].length = arguments[4].length = 0;
     field(answer.number);
     field(answer.place);
     field((uint64_t)wrong);
@@ -253,6 +315,9 @@ int main(void)
         case SHORTEN: leave_out_steps(); break;
         case WALK: walk(); break;
         case WRITE_FORMULA: write_formula(); break;
+        case SHORTEN_FOR: leave_out_steps_for(); break;
+        case TIMES_OF: times_of(); break;
+        case FEWER_ONES: fewer_ones(); break;
         default: return REQUEST_DOES_NOT_READ;
         }
         give_answer();

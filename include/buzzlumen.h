@@ -36,9 +36,12 @@
  * Kinds: 1 BUF and 2 NOT have one pin; 3 AND, 4 NAND, 5 OR and 6 NOR two to eight; 7 XOR and 8 XNOR two; 9 MUX three,
  * select, a and b, of which it gives a for select 0 and b for select 1.
  *
- * SETTLING. Inputs settle at 0, and a pin is ready a delay after its driver settles. The kinds 1 to 6 are settled by
- * their earliest pin at the controlling value, which is 1 for OR and NOR and 0 for the others, if any pin has it. All
- * other gates wait for their last pin. The circuit settles with its latest output.
+ * ARRIVALS. Beside the netlist each call but check takes one time for each of the I inputs, 0..9,999, in their order:
+ * when the input arrives. Where no input is late, they are I zeros.
+ *
+ * SETTLING. An input settles at its arrival, and a pin is ready a delay after its driver settles. The kinds 1 to 6 are
+ * settled by their earliest pin at the controlling value, which is 1 for OR and NOR and 0 for the others, if any pin
+ * has it. All other gates wait for their last pin. The circuit settles with its latest output, never after 457,551.
  */
 #ifndef BUZZLUMEN_H
 #define BUZZLUMEN_H
@@ -73,7 +76,8 @@ enum {
                                   how many clauses the refutation has */
     BUZZLUMEN_STEP = 14,       /* a clause of the refutation doesn't follow by unit propagation from the formula and
                                   the clauses before it: the first that doesn't */
-    BUZZLUMEN_WITNESS = 15     /* under the vector the circuit settles at another time than the delay: that time */
+    BUZZLUMEN_WITNESS = 15,    /* under the vector the circuit settles at another time than the delay: that time */
+    BUZZLUMEN_ARRIVAL = 16     /* not just I arrivals: I; then, an arrival over 9,999: the first one's position */
 };
 
 typedef struct {
@@ -104,8 +108,9 @@ typedef struct {
 /* Values and settling times of all nodes under a vector, one byte 0 or 1 for each input.
  * Needed lengths: values N, times N.
  * Leaves: in values the value of each node, in times its settling time.
- * Order of checks: 1 to 8, 9 for values, 9 for times. */
+ * Order of checks: 1 to 7, 16, 8, 9 for values, 9 for times. */
 buzzlumen_evaluated buzzlumen_evaluate(const uint8_t *netlist, size_t netlist_length,
+                                       const uint32_t *arrivals, size_t arrivals_length,
                                        const uint8_t *vector, size_t vector_length,
                                        uint8_t *values, size_t values_length,
                                        uint32_t *times, size_t times_length);
@@ -116,8 +121,9 @@ buzzlumen_evaluated buzzlumen_evaluate(const uint8_t *netlist, size_t netlist_le
  * Leaves: in pairs the pairs (node, time), two numbers each, by node rising, then time rising; in formula the clauses,
  * each ended by 0. Variables: a node's is its number plus 1, the pairs take N+1 and on in the table's order.
  * A caller that hands the formula on must hand on its first `numbers` numbers: a 0 behind them is an empty clause.
- * Order of checks: 1 to 7, 10, 9 for the formula. */
+ * Order of checks: 1 to 7, 16, 10, 9 for the formula. */
 buzzlumen_built buzzlumen_build(const uint8_t *netlist, size_t netlist_length,
+                                const uint32_t *arrivals, size_t arrivals_length,
                                 uint32_t target,
                                 uint32_t *pairs, size_t pairs_length,
                                 int32_t *formula, size_t formula_length);
@@ -133,13 +139,15 @@ buzzlumen_checked buzzlumen_check(uint32_t variables,
 
 /* Whether a delay is the circuit's true delay by this certificate: the vector settles at exactly the delay, and the
  * refutation passes the check against the formula for the delay + 1.
- * Acceptance means that under no vector whatever the circuit settles later than the delay, and that under the vector
- * given it settles at the delay: the delay is the largest settling time there is. A refusal means only that this is no
- * certificate; it says nothing about the delay.
+ * Acceptance means that with these arrivals the circuit settles under no vector whatever later than the delay, and
+ * under the vector given at the delay: the delay is the largest settling time there is. A refusal means only that this
+ * is no certificate; it says nothing about the delay.
  * Needed lengths: values N, times N, pairs and formula as for building at the delay + 1, propagation N + pairs + 1.
  * Leaves: values and times as evaluation does, pairs and formula as building at the delay + 1 does, propagation zeros.
- * Order of checks: 1 to 8, 9 for values, 9 for times, 15, 10, 9 for the formula, 12, 13, 9 for propagation, 14. */
+ * Order of checks: 1 to 7, 16, 8, 9 for values, 9 for times, 15, 10, 9 for the formula, 12, 13, 9 for propagation,
+ * 14. */
 buzzlumen_judged buzzlumen_judge(const uint8_t *netlist, size_t netlist_length,
+                                 const uint32_t *arrivals, size_t arrivals_length,
                                  uint32_t delay,
                                  const uint8_t *vector, size_t vector_length,
                                  const int32_t *refutation, size_t refutation_length,

@@ -8,10 +8,10 @@
 netlist_cases reads cases, each a length (4 bytes, little endian) and so many bytes of a netlist file, and prints
 `accepted I G P Q` or `refused number place` for each.
 
-settle_cases reads cases, each a netlist and a vector (each a length of 4 bytes, then its bytes), then the room for
-values and the room for times (4 bytes each). It evaluates with slices lent from two arrays that are filled with a
-pattern, and prints `settled T` or `refused number place`, then ` values` and ` times`, each with the lent part and
-four numbers behind it.
+settle_cases reads cases, each a netlist, its arrivals and a vector (each a length of 4 bytes, then its bytes, or for
+the arrivals numbers of 4 bytes), then the room for values and the room for times (4 bytes each). It evaluates with
+slices lent from two arrays that are filled with a pattern, and prints `settled T` or `refused number place`, then
+` values` and ` times`, each with the lent part and four numbers behind it. The first cases have no late input.
 
 The expected output is worked out by tests/document.py alone. Cases come from one fixed seed.
 """
@@ -23,7 +23,7 @@ import sys
 
 import methods
 from document import (AND, BUF, MUX, NAND, NOR, NOT, OR, PIN_COUNTS, XNOR, XOR, Gate, Netlist, Pin, Refusal, Refused,
-                      circuit_time, evaluate, formula_program, node_count, read_netlist)
+                      circuit_time, evaluate, formula_program, no_arrivals, node_count, read_netlist)
 
 SEED = 1
 MOST_CASE = 65535
@@ -259,12 +259,17 @@ def sized(data):
     return struct.pack("<I", len(data)) + data
 
 
+def counted(numbers):
+    """A count of 4 bytes, then the numbers, 4 bytes each."""
+    return struct.pack("<I%dI" % len(numbers), len(numbers), *numbers)
+
+
 def lines(each):
     """Lines as stored."""
     return "".join(line + "\n" for line in each).encode()
 
 
-# Settle cases: a netlist, a vector and two rooms
+# Settle cases: a netlist, its arrivals, a vector and two rooms
 
 
 def random_room(dice, nodes):
@@ -305,8 +310,8 @@ def edge_cases():
     yield data[:-1], bytes((2, 2, 2)), 3, 2
 
 
-def settle_cases():
-    """Every settle case: the edges, small circuits of all kinds, and a few of the largest."""
+def timely_cases():
+    """The cases in which every input arrives at 0: the edges, small circuits of all kinds, and a few of the largest."""
     dice = methods.Dice(SEED + 1)
     cases = list(edge_cases())
     for number in range(420):
@@ -316,7 +321,46 @@ def settle_cases():
         cases.append(settle_case(dice, methods.random_netlist(dice, 64, 200), number % 4 != 0))
     for number in range(12):
         cases.append(settle_case(dice, methods.largest_netlist(dice), number % 4 != 0))
+    return [(data, no_arrivals(data), *others) for data, *others in cases]
+
+
+def arrival_cases():
+    """Circuit A with late inputs under all vectors, and both sides of every boundary of check 16, alone and together
+    with a damaged file, a bad vector and small rooms.
+    """
+    data = methods.Tables(CIRCUIT_A).write()
+    for arrivals in ([0, 7], [9999, 0], [9999, 9999], [1, 2]):
+        for vector in methods.all_vectors(2):
+            yield data, arrivals, bytes(vector), 5, 5
+    for arrivals in ([], [0], [0] * 3, [0] * 64, [0] * 65, [0] * 255, [10000], [10000] * 3, [9999, 10000],
+                     [10000, 9999], [10000, 10000], [2 ** 32 - 1, 0], [0, 2 ** 32 - 1], [0, 65536], [75535, 0]):
+        for vector, values, times in (((0, 0), 5, 5), ((2, 0), 5, 5), ((0,), 4, 5), ((0, 0), 4, 4)):
+            yield data, arrivals, bytes(vector), values, times
+        yield changed(CIRCUIT_A, output(0, 5)), arrivals, bytes((0, 0)), 5, 5
+    through = methods.Tables(plain(64, 0, 64)).write()
+    for arrivals in (list(range(64)), [9999 - place for place in range(64)], [9999] * 63 + [10000], [0] * 63):
+        yield through, arrivals, bytes(64), 64, 64
+    chain = methods.Tables(Netlist(1, [Gate(BUF, [Pin(node, 999)]) for node in range(448)], [448])).write()
+    yield chain, [9999], bytes((1,)), 449, 449
+
+
+def late_cases():
+    """The cases with late inputs: the edges, small circuits of all kinds, a few of the largest."""
+    dice = methods.Dice(SEED + 2)
+    cases = list(arrival_cases())
+    makers = [lambda: methods.random_netlist(dice, 8, dice.choice((2, 6, 12, 12, 30)))] * 240
+    makers += [lambda: methods.random_netlist(dice, 64, 200)] * 6 + [lambda: methods.largest_netlist(dice)] * 6
+    for number, make in enumerate(makers):
+        netlist = make()
+        arrivals = (methods.random_arrivals if number % 8 else methods.bad_arrivals)(dice, netlist.inputs)
+        data, *others = settle_case(dice, netlist, number % 3 != 0)
+        cases.append((data, arrivals, *others))
     return cases
+
+
+def settle_cases():
+    """Every settle case."""
+    return timely_cases() + late_cases()
 
 
 def settle_line(case):
@@ -330,20 +374,20 @@ def settle_line(case):
 def settle_bundle():
     """The stored input and output of settle_cases."""
     cases = settle_cases()
-    stdin = b"".join(sized(data) + sized(vector) + struct.pack("<II", values, times)
-                     for data, vector, values, times in cases)
+    stdin = b"".join(sized(data) + counted(arrivals) + sized(vector) + struct.pack("<II", values, times)
+                     for data, arrivals, vector, values, times in cases)
     return stdin, lines(settle_line(case) for case in cases)
 
 
 def waveform_differences():
     """The settle cases on which the settling rule and the simulation of waveforms disagree."""
     differences = 0
-    for data, vector, values_room, times_room in settle_cases():
-        answer, values, times = evaluate(data, vector, values_room, times_room)
+    for data, arrivals, vector, values_room, times_room in settle_cases():
+        answer, values, times = evaluate(data, arrivals, vector, values_room, times_room)
         if not isinstance(answer, Refused):
             netlist = read_netlist(data)
             nodes = node_count(netlist)
-            by_waveforms = methods.waveforms(netlist, vector)
+            by_waveforms = methods.waveforms(netlist, arrivals, vector)
             if by_waveforms != (values[:nodes], times[:nodes]) or answer != (circuit_time(netlist, by_waveforms[1]),):
                 differences += 1
     return differences
@@ -387,7 +431,7 @@ def page_differences():
             ("a long netlist", formula_program(bytes(65537)), "refused 9 65533\n"),
             ("no netlist", formula_program(bytes(4)), "refused 1 0\n")]
     for vector, times in (((0, 0), late_a), ((0, 1), late_b), ((1, 0), late_a), ((1, 1), late_b)):
-        said.append(("times at %d %d" % vector, evaluate(data, bytes(vector), 5, 5)[2], times))
+        said.append(("times at %d %d" % vector, evaluate(data, [0, 0], bytes(vector), 5, 5)[2], times))
     return [what for what, got, printed in said if got != printed]
 
 

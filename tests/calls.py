@@ -18,8 +18,11 @@ from document import Built, Refused
 Call = namedtuple("Call", "function arguments wanted", defaults=(None,))
 
 FUNCTIONS = {"evaluate": 1, "build": 2, "check": 3, "judge": 4}
-# The parameters of each function: bytes, a number, signed numbers, or the room of a slice lent for writing.
-PARAMETERS = {"evaluate": "bbrr", "build": "bnrr", "check": "nssr", "judge": "bnbsrrrrr"}
+# The parameters of each function: bytes, a number, unsigned numbers, signed ones, or the room of a slice lent for
+# writing.
+PARAMETERS = {"evaluate": "bubrr", "build": "bunrr", "check": "nssr", "judge": "bunbsrrrrr"}
+# The element types of the slices to read.
+READ = {"b": "B", "u": "I", "s": "i"}
 # The element types of the slices lent for writing.
 LENT = {"evaluate": "BI", "build": "Ii", "check": "B", "judge": "BIIiB"}
 
@@ -78,8 +81,7 @@ def request_of(call):
         if form in "nr":
             parts.append(struct.pack("<I", argument))
         else:
-            content = bytes(argument) if form == "b" else array.array("i", argument).tobytes()
-            parts.append(struct.pack("<I", len(argument)) + content)
+            parts.append(struct.pack("<I", len(argument)) + array.array(READ[form], argument).tobytes())
     return b"".join(parts)
 
 

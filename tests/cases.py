@@ -13,10 +13,13 @@ import document
 import methods
 import solvers
 from calls import Call
-from document import (MUX, XOR, Accepted, Built, Gate, Netlist, Passes, Pin, Refused, Settled, node_count, numbers_of,
-                      write_netlist)
+from document import (AND, BUF, MUX, XOR, Accepted, Built, Gate, Netlist, Passes, Pin, Refused, Settled, node_count,
+                      numbers_of, write_netlist)
+from methods import in_time
 
 LARGEST = 4294967295
+# A refusal, whatever its number and place.
+ANY_REFUSAL = Refused(None, None)
 LEAST_SIGNED, MOST_SIGNED = -2147483648, 2147483647
 
 
@@ -39,25 +42,27 @@ def rooms(dice, *needed):
     return tuple(room(dice, length) for length in needed)
 
 
-def target_near(dice, netlist):
-    """A target: 0, 1, around the true delay, around the topological delay, any, or the largest."""
-    tops = document.tops_of(netlist)
+def target_near(dice, netlist, arrivals):
+    """A target: 0, 1, around the true delay, around the topological delay, around an arrival, any, or the largest."""
+    tops = document.tops_of(netlist, arrivals)
     top = max(tops[node] for node in netlist.outputs)
-    true = methods.true_delay(netlist)[0] if netlist.inputs <= 4 else top // 2
-    return max(0, dice.choice((0, 1, true - 1, true, true + 1, top - 1, top, top + 1, dice.randrange(top + 2),
-                               dice.randrange(top + 2), dice.choice((LARGEST, LARGEST - 1, 2 ** 31)))))
+    true = methods.true_delay(netlist, arrivals)[0] if netlist.inputs <= 4 else top // 2
+    arrival = dice.choice(arrivals)
+    return max(0, dice.choice((0, 1, true - 1, true, true + 1, top - 1, top, top + 1, arrival, arrival + 1,
+                               dice.randrange(top + 2), dice.randrange(top + 2),
+                               dice.choice((LARGEST, LARGEST - 1, 2 ** 31)))))
 
 
-def formula_for(netlist, target):
+def formula_for(netlist, arrivals, target):
     """The number of pairs and the clauses of a formula, whatever its size."""
-    pairs = document.pairs_of(netlist, target, document.MOST_PAIRS)
-    return len(pairs), document.clauses_for(netlist, target, pairs)
+    pairs = document.pairs_of(netlist, arrivals, target, document.MOST_PAIRS)
+    return len(pairs), document.clauses_for(netlist, arrivals, target, pairs)
 
 
-def size_of_formula(data, target):
+def size_of_formula(data, arrivals, target):
     """The pairs and the numbers of a formula; none where there is no formula."""
     try:
-        pairs, clauses = formula_for(document.read_netlist(data), target)
+        pairs, clauses = formula_for(document.read_circuit(data, arrivals), arrivals, target)
     except document.Refusal:
         return 0, 0
     return pairs, sum(len(clause) + 1 for clause in clauses)
@@ -78,24 +83,34 @@ def file_of(dice, netlist, faulty):
     return write_netlist(netlist, b"note"[:dice.choice((0, 0, 0, 1, 4))])
 
 
+def arrivals_of(dice, netlist, faulty):
+    """Arrivals, bad if so asked."""
+    return (methods.bad_arrivals if faulty else methods.random_arrivals)(dice, netlist.inputs)
+
+
 def vector_of(dice, netlist, faulty):
     """A vector, bad if so asked."""
     return (methods.bad_vector if faulty else methods.random_vector)(dice, netlist.inputs)
 
 
 def evaluate_call(dice, netlist):
-    """A call of evaluate, some with a damaged file, a bad vector, or rooms that are too small."""
+    """A call of evaluate, some with a damaged file, bad arrivals, a bad vector, two of these, or too small rooms."""
     nodes = node_count(netlist)
-    fault = dice.randrange(10)
-    data, vector = file_of(dice, netlist, fault < 3), vector_of(dice, netlist, fault in (2, 3))
-    return Call("evaluate", (data, vector, *rooms(dice, nodes, nodes)))
+    fault = dice.randrange(12)
+    data, arrivals = file_of(dice, netlist, fault < 3), arrivals_of(dice, netlist, fault in (2, 3, 4))
+    vector = vector_of(dice, netlist, fault in (1, 4, 5))
+    return Call("evaluate", (data, arrivals, vector, *rooms(dice, nodes, nodes)))
 
 
 def build_call(dice, netlist):
-    """A call of build, some with a damaged file or rooms that are too small."""
-    data, target = file_of(dice, netlist, dice.randrange(6) == 0), target_near(dice, netlist)
-    pairs, numbers = size_of_formula(data, target)
-    return Call("build", (data, target, *rooms(dice, 2 * pairs, numbers)))
+    """A call of build, some with a damaged file, bad arrivals, both, or rooms that are too small."""
+    fault = dice.randrange(12)
+    arrivals = arrivals_of(dice, netlist, False)
+    data, target = file_of(dice, netlist, fault < 2), target_near(dice, netlist, arrivals)
+    pairs, numbers = size_of_formula(data, arrivals, target)
+    if fault in (1, 2):
+        arrivals = arrivals_of(dice, netlist, True)
+    return Call("build", (data, arrivals, target, *rooms(dice, 2 * pairs, numbers)))
 
 
 def random_clause(dice, variables, length):
@@ -204,23 +219,23 @@ def stated_variables(dice, variables):
     return dice.choice((0, max(0, variables - 1), variables + 1, 100, 100001, LARGEST))
 
 
-def refutation_for(netlist, target):
+def refutation_for(netlist, arrivals, target):
     """A refutation of a formula that has no solution: the empty clause if that will do, else the tree over inputs."""
-    _, clauses = formula_for(netlist, target)
+    _, clauses = formula_for(netlist, arrivals, target)
     if methods.first_gap(clauses, [[]]) is None:
         return [[]]
     return tree_refutation(tuple(range(1, netlist.inputs + 1)))
 
 
-def judge_call(dice, netlist):
-    """A call of judge: a right certificate, or one with a wrong delay, vector, refutation, file or room."""
-    delay, vector = methods.true_delay(netlist)
-    vector, steps = bytes(vector), refutation_for(netlist, delay + 1)
+def judge_call(dice, netlist, arrivals):
+    """A call of judge: a right certificate, or one with a wrong delay, vector, refutation, file, arrival or room."""
+    delay, vector = methods.true_delay(netlist, arrivals)
+    vector, steps = bytes(vector), refutation_for(netlist, arrivals, delay + 1)
     data, refutation = write_netlist(netlist), numbers_of(steps)
-    nodes, (pairs, numbers) = node_count(netlist), size_of_formula(data, delay + 1)
-    fault = dice.randrange(12)
+    nodes, (pairs, numbers) = node_count(netlist), size_of_formula(data, arrivals, delay + 1)
+    fault = dice.randrange(15)
     if fault < 2:
-        return accepted_certificate(dice, data, delay, vector, refutation)
+        return accepted_certificate(dice, data, arrivals, delay, vector, refutation)
     if fault in (2, 3):
         vector = vector_of(dice, netlist, fault == 2)
     if fault in (3, 4):
@@ -233,7 +248,12 @@ def judge_call(dice, netlist):
         data = methods.damage(dice, netlist)
     if fault == 10:
         refutation = [0]
-    return Call("judge", (data, delay, vector, refutation, *rooms(dice, *needed_by_judge(nodes, pairs, numbers))))
+    if fault in (11, 12):
+        arrivals = arrivals_of(dice, netlist, fault == 12)
+    if fault == 13:
+        arrivals, vector = arrivals_of(dice, netlist, True), vector_of(dice, netlist, True)
+    enough = rooms(dice, *needed_by_judge(nodes, pairs, numbers))
+    return Call("judge", (data, arrivals, delay, vector, refutation, *enough))
 
 
 def needed_by_judge(nodes, pairs, numbers):
@@ -241,22 +261,30 @@ def needed_by_judge(nodes, pairs, numbers):
     return nodes, nodes, 2 * pairs, numbers, nodes + pairs + 1
 
 
-def hard_netlist(dice, most_inputs):
-    """A circuit at whose true delay the empty clause alone is no refutation, if one is soon found."""
+def small_arrivals(dice, netlist):
+    """Arrivals of the size of small delays, all 0 in one of three."""
+    if dice.randrange(3) == 0:
+        return in_time(netlist)
+    return [dice.choice((0, 0, 1, 2, 4, 7)) for _ in range(netlist.inputs)]
+
+
+def hard_circuit(dice, most_inputs):
+    """A circuit and its arrivals, at whose true delay the empty clause alone is no refutation, if one is soon found."""
     for _ in range(12):
         netlist = with_small_delays(dice, methods.random_netlist(dice, most_inputs, 24, 60))
-        delay, _ = methods.true_delay(netlist)
-        if refutation_for(netlist, delay + 1) != [[]]:
+        arrivals = small_arrivals(dice, netlist)
+        delay, _ = methods.true_delay(netlist, arrivals)
+        if refutation_for(netlist, arrivals, delay + 1) != [[]]:
             break
-    return netlist
+    return netlist, arrivals
 
 
-def accepted_certificate(dice, data, delay, vector, refutation):
+def accepted_certificate(dice, data, arrivals, delay, vector, refutation):
     """A call of judge that must be accepted."""
     netlist = document.read_netlist(data)
-    nodes, (pairs, numbers) = node_count(netlist), size_of_formula(data, delay + 1)
+    nodes, (pairs, numbers) = node_count(netlist), size_of_formula(data, arrivals, delay + 1)
     enough = [room_enough(dice, length) for length in needed_by_judge(nodes, pairs, numbers)]
-    return Call("judge", (data, delay, vector, refutation, *enough), Accepted())
+    return Call("judge", (data, arrivals, delay, vector, refutation, *enough), Accepted())
 
 
 # Peers
@@ -264,47 +292,65 @@ def accepted_certificate(dice, data, delay, vector, refutation):
 
 def peer_calls(dice):
     """Calls on one circuit whose formulas two solvers answered; first the solvers' own disagreements, in words."""
-    netlist = peer_netlist(dice)
-    delay, vector = methods.true_delay(netlist)
+    netlist, arrivals = peer_circuit(dice)
+    delay, vector = methods.true_delay(netlist, arrivals)
     data = write_netlist(netlist)
     calls, complaints = [], []
     for target in sorted({delay, delay + 1, max(1, dice.randrange(delay + 3))}):
-        pairs, clauses = formula_for(netlist, target)
+        pairs, clauses = formula_for(netlist, arrivals, target)
         variables = node_count(netlist) + pairs
         for name, solver in solvers.SOLVERS:
             has_model, found = solver(variables, clauses)
             if has_model != (target <= delay):
                 complaints.append("%s: a model at %d: %s; true delay %d" % (name, target, has_model, delay))
             elif has_model:
-                calls.append(model_call(netlist, data, target, found, complaints))
+                calls.append(model_call(netlist, arrivals, target, found, complaints))
             else:
                 calls += refutation_calls(dice, variables, clauses, found)
                 if target == delay + 1:
-                    calls.append(accepted_certificate(dice, data, delay, bytes(vector), numbers_of(found)))
-                    calls += false_certificates(netlist, data, delay, bytes(vector), needed_steps(clauses, found))
+                    certificate = arrivals, delay, bytes(vector), needed_steps(clauses, found)
+                    calls.append(accepted_certificate(dice, data, arrivals, delay, bytes(vector), numbers_of(found)))
+                    calls += false_certificates(netlist, *certificate) + misdated(dice, netlist, *certificate)
     return calls, complaints
 
 
-def false_certificates(netlist, data, delay, vector, steps):
+def false_certificates(netlist, arrivals, delay, vector, steps):
     """Calls of judge beside the true certificate, none of which may be accepted: one less and one more than the true
     delay, another vector, a refutation without one of its needed steps."""
-    nodes, (pairs, numbers) = node_count(netlist), size_of_formula(data, delay + 1)
+    data = write_netlist(netlist)
+    nodes, (pairs, numbers) = node_count(netlist), size_of_formula(data, arrivals, delay + 1)
     room = needed_by_judge(nodes, pairs, numbers)
     refutation = numbers_of(steps)
     wrong = [(claimed, vector, refutation, Refused(document.WITNESS, delay))
              for claimed in {max(0, delay - 1), delay + 1} if claimed != delay]
     for other in methods.all_vectors(netlist.inputs):
-        _, times = document.settle(netlist, other)
+        _, times = document.settle(netlist, arrivals, other)
         if document.circuit_time(netlist, times) != delay:
             time = document.circuit_time(netlist, times)
             wrong.append((delay, bytes(other), refutation, Refused(document.WITNESS, time)))
             break
     if len(steps) > 1:
         fewer = steps[1:]
-        _, clauses = formula_for(netlist, delay + 1)
+        _, clauses = formula_for(netlist, arrivals, delay + 1)
         gap = methods.first_gap(clauses, fewer)
         wrong.append((delay, vector, numbers_of(fewer), Refused(document.STEP, gap)))
-    return [Call("judge", (data, claimed, given, numbers, *room), answer) for claimed, given, numbers, answer in wrong]
+    return [Call("judge", (data, arrivals, claimed, given, numbers, *room), answer)
+            for claimed, given, numbers, answer in wrong]
+
+
+def misdated(dice, netlist, arrivals, delay, vector, steps):
+    """Calls of judge on the true certificate with other arrivals, under which another delay is the true one: none may
+    be accepted. Not for circuits of so many inputs that trying all vectors takes long.
+    """
+    calls, data = [], write_netlist(netlist)
+    for _ in range(3 if netlist.inputs <= 6 else 0):
+        place, other = dice.randrange(netlist.inputs), list(arrivals)
+        other[place] = dice.choice((0, other[place] + 1, other[place] + 3, 40))
+        if methods.true_delay(netlist, other)[0] != delay:
+            pairs, numbers = size_of_formula(data, other, delay + 1)
+            room = needed_by_judge(node_count(netlist), pairs, numbers)
+            calls.append(Call("judge", (data, other, delay, vector, numbers_of(steps), *room), ANY_REFUSAL))
+    return calls
 
 
 def pigeons(holes):
@@ -333,11 +379,12 @@ def solver_calls(dice):
     return calls
 
 
-def peer_netlist(dice):
-    """A circuit of up to 12 inputs, few enough to try all vectors."""
+def peer_circuit(dice):
+    """A circuit of up to 12 inputs, few enough to try all vectors, and its arrivals."""
     if dice.randrange(3):
-        return hard_netlist(dice, dice.choice((4, 5, 6)))
-    return with_small_delays(dice, methods.random_netlist(dice, dice.choice((7, 12)), 20, 48))
+        return hard_circuit(dice, dice.choice((4, 5, 6)))
+    netlist = with_small_delays(dice, methods.random_netlist(dice, dice.choice((7, 12)), 20, 48))
+    return netlist, small_arrivals(dice, netlist)
 
 
 def with_small_delays(dice, netlist):
@@ -347,13 +394,14 @@ def with_small_delays(dice, netlist):
     return Netlist(netlist.inputs, gates, netlist.outputs)
 
 
-def model_call(netlist, data, target, model, complaints):
+def model_call(netlist, arrivals, target, model, complaints):
     """A call of evaluate on a solver's model, whose vector must settle at the target or later."""
     vector = bytes(1 if node + 1 in model else 0 for node in range(netlist.inputs))
-    _, times = methods.waveforms(netlist, vector)
-    if max(times[node] for node in netlist.outputs) < target:
+    _, times = methods.waveforms(netlist, arrivals, vector)
+    time, nodes = max(times[node] for node in netlist.outputs), node_count(netlist)
+    if time < target:
         complaints.append("a model at %d settles before" % target)
-    return Call("evaluate", (data, vector, node_count(netlist), node_count(netlist)))
+    return Call("evaluate", (write_netlist(netlist), arrivals, vector, nodes, nodes), Settled(time))
 
 
 def refutation_calls(dice, variables, clauses, steps):
@@ -391,7 +439,7 @@ FILE_A = bytes.fromhex("01010000 03020100 05020300 00000300 02000100 01000100 03
 
 def edge_calls():
     """The cases of rules X3 and X4 with the answers there, and some beside them."""
-    return circuit_edges() + refutation_edges()
+    return circuit_edges() + late_edges() + arrival_edges() + refutation_edges()
 
 
 def circuit_edges():
@@ -399,22 +447,86 @@ def circuit_edges():
     twice = write_netlist(Netlist(1, [Gate(XOR, [Pin(0, 1), Pin(0, 4)])], [1]))
     chooser = write_netlist(Netlist(3, [Gate(MUX, [Pin(0, 9), Pin(1, 1), Pin(2, 2)])], [3]))
     through = write_netlist(Netlist(1, [], [0]))
-    calls = [Call("evaluate", (FILE_A, bytes(vector), 5, 5), Settled(time))
+    calls = [Call("evaluate", (FILE_A, [0, 0], bytes(vector), 5, 5), Settled(time))
              for vector, time in (((0, 0), 2), ((0, 1), 1), ((1, 0), 2), ((1, 1), 1))]
-    calls += [Call("evaluate", (twice, bytes((value,)), 2, 2), Settled(4)) for value in (0, 1)]
-    calls += [Call("evaluate", (chooser, bytes(vector), 4, 4), Settled(9)) for vector in methods.all_vectors(3)]
+    calls += [Call("evaluate", (twice, [0], bytes((value,)), 2, 2), Settled(4)) for value in (0, 1)]
+    calls += [Call("evaluate", (chooser, [0] * 3, bytes(vector), 4, 4), Settled(9))
+              for vector in methods.all_vectors(3)]
     return calls + [
-        Call("build", (FILE_A, 0, 0, 26), Built(5, 8, 26, 0)),
-        Call("build", (FILE_A, 3, 6, 48), Built(8, 15, 48, 3)),
-        Call("build", (FILE_A, 3, 6, 47), Refused(9, 48)),
-        Call("build", (FILE_A, 3, 5, 48), Refused(10, 0)),
-        Call("build", (FILE_A, 6, 0, 27), Built(5, 9, 27, 0)),
-        Call("judge", (FILE_A, 2, bytes((0, 0)), [0], 5, 5, 6, 48, 9), Accepted()),
-        Call("judge", (FILE_A, 2, bytes((0, 1)), [0], 5, 5, 6, 48, 9), Refused(15, 1)),
-        Call("judge", (FILE_A, 5, bytes((0, 0)), [0], 5, 5, 6, 48, 9), Refused(15, 2)),
-        Call("judge", (FILE_A, LARGEST, bytes((0, 0)), [0], 5, 5, 6, 48, 9), Refused(15, 2)),
-        Call("build", (through, 0, 0, 0), Built(1, 0, 0, 0)),
-        Call("judge", (through, 0, bytes((1,)), [0], 1, 1, 0, 1, 2), Accepted()),
+        Call("build", (FILE_A, [0, 0], 0, 0, 26), Built(5, 8, 26, 0)),
+        Call("build", (FILE_A, [0, 0], 3, 6, 48), Built(8, 15, 48, 3)),
+        Call("build", (FILE_A, [0, 0], 3, 6, 47), Refused(9, 48)),
+        Call("build", (FILE_A, [0, 0], 3, 5, 48), Refused(10, 0)),
+        Call("build", (FILE_A, [0, 0], 6, 0, 27), Built(5, 9, 27, 0)),
+        Call("judge", (FILE_A, [0, 0], 2, bytes((0, 0)), [0], 5, 5, 6, 48, 9), Accepted()),
+        Call("judge", (FILE_A, [0, 0], 2, bytes((0, 1)), [0], 5, 5, 6, 48, 9), Refused(15, 1)),
+        Call("judge", (FILE_A, [0, 0], 5, bytes((0, 0)), [0], 5, 5, 6, 48, 9), Refused(15, 2)),
+        Call("judge", (FILE_A, [0, 0], LARGEST, bytes((0, 0)), [0], 5, 5, 6, 48, 9), Refused(15, 2)),
+        Call("build", (through, [0], 0, 0, 0), Built(1, 0, 0, 0)),
+        Call("judge", (through, [0], 0, bytes((1,)), [0], 1, 1, 0, 1, 2), Accepted()),
+    ]
+
+
+def late_edges():
+    """Edges of late inputs, their answers worked out by hand: circuit A with b late; an input that is an output; a gate
+    on late inputs, at and past the time up to which they are late.
+    """
+    through = write_netlist(Netlist(1, [], [0]))
+    behind = write_netlist(Netlist(1, [Gate(BUF, [Pin(0, 3)])], [1]))
+    both = write_netlist(Netlist(2, [Gate(AND, [Pin(0, 0), Pin(1, 0)])], [2]))
+    beside = write_netlist(Netlist(2, [Gate(BUF, [Pin(0, 3)])], [1, 2]))
+    latest = write_netlist(Netlist(1, [Gate(BUF, [Pin(node, 999)]) for node in range(448)], [448]))
+    calls = [Call("evaluate", (FILE_A, [0, 7], bytes(vector), 5, 5), Settled(time))
+             for vector, time in (((0, 0), 8), ((0, 1), 8), ((1, 0), 9), ((1, 1), 8))]
+    calls += [Call("evaluate", (FILE_A, [9999, 0], bytes(vector), 5, 5), Settled(time))
+              for vector, time in (((0, 0), 2), ((0, 1), 1), ((1, 0), 2), ((1, 1), 1))]
+    calls += [Call("evaluate", (latest, [9999], bytes((value,)), 449, 449), Settled(457551)) for value in (0, 1)]
+    return calls + [
+        Call("evaluate", (through, [5], bytes((1,)), 1, 1), Settled(5)),
+        Call("build", (through, [5], 0, 0, 0), Built(1, 0, 0, 0)),
+        Call("build", (through, [5], 5, 0, 0), Built(1, 0, 0, 0)),
+        Call("build", (through, [5], 6, 0, 1), Built(1, 1, 1, 0)),
+        Call("judge", (through, [5], 5, bytes((1,)), [0], 1, 1, 0, 1, 2), Accepted()),
+        Call("judge", (through, [5], 4, bytes((1,)), [0], 1, 1, 0, 1, 2), Refused(15, 5)),
+        Call("judge", (through, [5], 0, bytes((1,)), [0], 1, 1, 0, 1, 2), Refused(15, 5)),
+        Call("build", (behind, [5], 3, 2, 8), Built(3, 3, 8, 1)),
+        Call("build", (behind, [5], 8, 2, 8), Built(3, 3, 8, 1)),
+        Call("build", (behind, [5], 9, 0, 7), Built(2, 3, 7, 0)),
+        Call("build", (behind, [4], 8, 0, 7), Built(2, 3, 7, 0)),
+        Call("build", (both, [5, 3], 4, 2, 15), Built(4, 5, 15, 1)),
+        Call("build", (both, [5, 3], 3, 2, 12), Built(4, 4, 12, 1)),
+        Call("build", (both, [5, 3], 6, 0, 11), Built(3, 4, 11, 0)),
+        Call("build", (beside, [0, 3], 3, 2, 6), Built(4, 2, 6, 1)),
+        Call("build", (beside, [0, 3], 4, 0, 7), Built(3, 3, 7, 0)),
+        Call("judge", (both, [5, 3], 5, bytes((1, 1)), [0], 3, 3, 0, 11, 4), Accepted()),
+        Call("judge", (both, [5, 3], 5, bytes((1, 0)), [0], 3, 3, 0, 11, 4), Refused(15, 3)),
+        Call("judge", (both, [3, 5], 5, bytes((1, 0)), [0], 3, 3, 0, 11, 4), Accepted()),
+        Call("judge", (latest, [9999], 457551, bytes((1,)), [0], 449, 449, 0, 2689, 450), Accepted()),
+        Call("judge", (FILE_A, [0, 7], 9, bytes((1, 0)), [0], 5, 5, 0, 27, 6), Accepted()),
+        Call("judge", (FILE_A, [0, 7], 8, bytes((0, 1)), [0], 5, 5, 8, 60, 10), Refused(document.STEP, 0)),
+    ]
+
+
+def arrival_edges():
+    """Edges of check 16: the number of arrivals, then their size; and its place between 7 and what comes after it."""
+    lower = FILE_A[:32] + bytes((5,)) + FILE_A[33:]
+    calls = []
+    for arrivals, place in (([], 2), ([0], 2), ([0] * 3, 2), ([10000], 2), ([LARGEST] * 3, 2), ([0] * 64, 2),
+                            ([10000, 0], 0), ([9999, 10000], 1), ([LARGEST, LARGEST], 0), ([0, LARGEST], 1)):
+        wanted = Refused(document.ARRIVAL, place)
+        for vector, room in ((bytes((0, 0)), 5), (bytes((2, 0)), 5), (b"", 5), (bytes((0, 0)), 0)):
+            calls.append(Call("evaluate", (FILE_A, arrivals, vector, room, room), wanted))
+            calls.append(Call("judge", (FILE_A, arrivals, 2, vector, [0], room, room, 6, 48, 9), wanted))
+        calls += [Call("build", (FILE_A, arrivals, target, *room), wanted)
+                  for target in (0, 3, LARGEST) for room in ((6, 48), (0, 0))]
+        wanted = Refused(document.OUTPUT, 0)
+        calls += [Call("evaluate", (lower, arrivals, bytes((2, 2)), 5, 5), wanted),
+                  Call("build", (lower, arrivals, 3, 6, 48), wanted),
+                  Call("judge", (lower, arrivals, 2, b"", [0], 5, 5, 6, 48, 9), wanted)]
+    return calls + [
+        Call("evaluate", (FILE_A, [9999, 9999], bytes((2, 0)), 5, 5), Refused(document.VECTOR, 0)),
+        Call("evaluate", (FILE_A, [9999, 9999], bytes((0, 0)), 4, 5), Refused(document.ROOM, 5)),
+        Call("build", (FILE_A, [9999, 9999], 10002, 1, 99), Refused(document.PAIRS, 0)),
     ]
 
 
@@ -440,31 +552,34 @@ def refutation_edges():
     ]
 
 
-def ladder_calls(dice, count):
-    """Calls of build around a number of pairs: the table exact, one short, odd and larger; the formula at its edge."""
+def ladder_calls(dice, count, arrival=0):
+    """Calls of build around a number of pairs: the table exact, one short, odd and larger; the formula at its edge. The
+    target is later by the arrival, and so the pairs are as many whatever it is.
+    """
     netlist = methods.ladders_for_pairs(dice, count)
-    data, target = write_netlist(netlist), methods.LADDER_TARGET
+    given = write_netlist(netlist), [arrival], methods.LADDER_TARGET + arrival
     if count > document.MOST_PAIRS:
-        return [Call("build", (data, target, room, 1000), Refused(10, 0)) for room in (2 * count, 2 * count + 3)]
-    pairs, numbers = size_of_formula(data, target)
-    built = Built(node_count(netlist) + count, None, numbers, pairs)
+        return [Call("build", (*given, room, 1000), Refused(10, 0)) for room in (2 * count, 2 * count + 3)]
+    _, numbers = size_of_formula(*given)
+    built = Built(node_count(netlist) + count, None, numbers, count)
     return [
-        Call("build", (data, target, 2 * count, numbers), built),
-        Call("build", (data, target, 2 * count + 5, numbers + 3), built),
-        Call("build", (data, target, 2 * count - 1, numbers), Refused(10, 0)),
-        Call("build", (data, target, 2 * count - 2, numbers), Refused(10, 0)),
-        Call("build", (data, target, 2 * count, numbers - 1), Refused(9, numbers)),
+        Call("build", (*given, 2 * count, numbers), built),
+        Call("build", (*given, 2 * count + 5, numbers + 3), built),
+        Call("build", (*given, 2 * count - 1, numbers), Refused(10, 0)),
+        Call("build", (*given, 2 * count - 2, numbers), Refused(10, 0)),
+        Call("build", (*given, 2 * count, numbers - 1), Refused(9, numbers)),
     ]
 
 
 def largest_calls(dice):
     """Calls on a circuit with as many inputs, gates, pins and outputs as may be."""
     netlist = methods.largest_netlist(dice)
-    data, top = write_netlist(netlist), max(document.tops_of(netlist))
-    calls = [evaluate_call(dice, netlist) for _ in range(4)]
-    for target in (0, 1, 2, top, top + 1, LARGEST):
-        pairs, numbers = size_of_formula(data, target)
-        calls.append(Call("build", (data, target, *rooms(dice, 2 * pairs, numbers))))
+    data, calls = write_netlist(netlist), [evaluate_call(dice, netlist) for _ in range(4)]
+    for arrivals in (in_time(netlist), arrivals_of(dice, netlist, False)):
+        top = max(document.tops_of(netlist, arrivals))
+        for target in (0, 1, 2, top, top + 1, LARGEST):
+            pairs, numbers = size_of_formula(data, arrivals, target)
+            calls.append(Call("build", (data, arrivals, target, *rooms(dice, 2 * pairs, numbers))))
     return calls
 
 
@@ -476,10 +591,10 @@ def boundary_calls(dice, share):
     calls = []
     for data in bundles.netlist_cases()[share::BOUNDARY_SHARES]:
         inputs = struct.unpack_from("<H", data, len(data) - 10)[0] if len(data) >= 14 else 1
-        vector = methods.random_vector(dice, inputs % 100)
-        calls.append(Call("evaluate", (data, vector, 520, 520)))
-        calls.append(Call("build", (data, dice.choice((0, 1, 3)), 60, 9000)))
-        calls.append(Call("judge", (data, dice.choice((0, 1)), vector, [0], 520, 520, 60, 9000, 600)))
+        vector, arrivals = methods.random_vector(dice, inputs % 100), [dice.randrange(2)] * (inputs % 100)
+        calls.append(Call("evaluate", (data, arrivals, vector, 520, 520)))
+        calls.append(Call("build", (data, arrivals, dice.choice((0, 1, 3)), 60, 9000)))
+        calls.append(Call("judge", (data, arrivals, dice.choice((0, 1)), vector, [0], 520, 520, 60, 9000, 600)))
     return calls
 
 
@@ -489,18 +604,19 @@ def wide_calls(dice):
     return [evaluate_call(dice, netlist), build_call(dice, netlist), build_call(dice, netlist)]
 
 
-def adder_calls(bits, block):
+def adder_calls(bits, block, late=0):
     """The certificate of a carry bypass adder, which must be accepted, and the same with a step or room too few."""
     netlist = adder.bypass_adder(bits, block)
-    delay, vector, refutation = adder.certificate(netlist)
-    data, enough = write_netlist(netlist), adder.rooms_for(netlist, delay)
-    calls = [Call("judge", (data, delay, vector, refutation, *enough), Accepted()),
-             Call("judge", (data, delay, vector, [0], *enough), Refused(document.STEP, 0)),
-             Call("judge", (data, delay - 1, vector, refutation, *enough), Refused(document.WITNESS, delay))]
+    arrivals = adder.carry_late(netlist, late)
+    delay, vector, refutation = adder.certificate(netlist, arrivals)
+    given, enough = (write_netlist(netlist), arrivals), adder.rooms_for(netlist, arrivals, delay)
+    calls = [Call("judge", (*given, delay, vector, refutation, *enough), Accepted()),
+             Call("judge", (*given, delay, vector, [0], *enough), Refused(document.STEP, 0)),
+             Call("judge", (*given, delay - 1, vector, refutation, *enough), Refused(document.WITNESS, delay))]
     for place, refusal in enumerate((document.ROOM, document.ROOM, document.PAIRS, document.ROOM, document.ROOM)):
         needed = 0 if refusal == document.PAIRS else enough[place]
         short = [room - (place == other) for other, room in enumerate(enough)]
-        calls.append(Call("judge", (data, delay, vector, refutation, *short), Refused(refusal, needed)))
+        calls.append(Call("judge", (*given, delay, vector, refutation, *short), Refused(refusal, needed)))
     return calls
 
 
@@ -508,15 +624,18 @@ FIRST_ROUNDS = [
     lambda dice: edge_calls(),
     lambda dice: adder_calls(12, 2),
     lambda dice: adder_calls(16, 4),
+    lambda dice: adder_calls(12, 2, 10),
 ]
 
 # How many pairs the ladders have, around the most that a table holds and few; the number of the round of each.
 LADDERS = (65535, 65536, 65537, 1, 2, 3, 10, 100, 1000)
 LADDER_ROUNDS = {count: len(FIRST_ROUNDS) + place for place, count in enumerate(LADDERS)}
+LATE_LADDERS = (65536, 3, 100)
 
 FIXED_ROUNDS = [
     *FIRST_ROUNDS,
     *[lambda dice, count=count: ladder_calls(dice, count) for count in LADDERS],
+    *[lambda dice, count=count: ladder_calls(dice, count, document.MOST_ARRIVAL) for count in LATE_LADDERS],
     solver_calls,
     *[largest_calls] * 4,
     *[lambda dice, share=share: boundary_calls(dice, share) for share in range(BOUNDARY_SHARES)],
@@ -540,7 +659,8 @@ def calls_of_round(dice, number):
     calls = [evaluate_call(dice, some_netlist(dice, 8)) for _ in range(4)]
     calls += [build_call(dice, some_netlist(dice)) for _ in range(3)]
     calls += [check_call(dice) for _ in range(3)]
-    calls += [judge_call(dice, methods.random_netlist(dice, 4, 8, 30)), judge_call(dice, hard_netlist(dice, 4))]
+    netlist = methods.random_netlist(dice, 4, 8, 30)
+    calls += [judge_call(dice, netlist, arrivals_of(dice, netlist, False)), judge_call(dice, *hard_circuit(dice, 4))]
     if number % 50 == 0:
         calls += wide_calls(dice)
     complaints = []

@@ -47,7 +47,7 @@ def second_opinion(call, answer, slices):
 def second_settling(arguments, answer, slices):
     """Settling by waveforms."""
     netlist = document.read_netlist(arguments[0])
-    values, times = methods.waveforms(netlist, arguments[1])
+    values, times = methods.waveforms(netlist, *arguments[1:3])
     nodes = node_count(netlist)
     same = slices[0][:nodes] == values and slices[1][:nodes] == times
     return [] if same and max(times[node] for node in netlist.outputs) == answer.time else ["waveforms disagree"]
@@ -55,7 +55,7 @@ def second_settling(arguments, answer, slices):
 
 def second_formula(arguments, answer, slices):
     """The formula by recursion."""
-    pairs, clauses = methods.formula(document.read_netlist(arguments[0]), arguments[1])
+    pairs, clauses = methods.formula(document.read_netlist(arguments[0]), *arguments[1:3])
     numbers = [number for clause in clauses for number in clause]
     table = [number for pair in pairs for number in pair]
     same = slices[0][:len(table)] == table and slices[1][:len(numbers)] == numbers
@@ -98,7 +98,7 @@ def run_share(command, seed, numbers):
 def show_tally(tally):
     """How often each function gave each number, 0 being acceptance."""
     for function in FUNCTIONS:
-        counts = ["%d: %d" % (number, tally[function, number]) for number in range(16) if tally[function, number]]
+        counts = ["%d: %d" % (number, tally[function, number]) for number in range(17) if tally[function, number]]
         print("%s: by number %s" % (function, ", ".join(counts)))
 
 

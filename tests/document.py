@@ -11,7 +11,7 @@ from collections import namedtuple
 
 # The table of refusals (rule T1): number and name.
 (SHORT, VERSION, COUNT, BACK, GATE, PIN, OUTPUT, VECTOR,
- ROOM, PAIRS, FORMULA, REFUTATION, LAST, STEP, WITNESS) = range(1, 16)
+ ROOM, PAIRS, FORMULA, REFUTATION, LAST, STEP, WITNESS, ARRIVAL) = range(1, 17)
 
 # The nine kinds (rule K1).
 BUF, NOT, AND, NAND, OR, NOR, XOR, XNOR, MUX = range(1, 10)
@@ -28,6 +28,7 @@ FORCED = {BUF: 0, NOT: 1, AND: 0, NAND: 1, OR: 1, NOR: 0}
 TRAILER = 14
 MOST_INPUTS, MOST_GATES, MOST_PINS, MOST_OUTPUTS = 64, 448, 2048, 64
 MOST_DELAY = 999
+MOST_ARRIVAL = 9999
 MOST_PAIRS = 65536
 MOST_VARIABLES = 100000
 
@@ -140,6 +141,22 @@ def node_count(netlist):
     return netlist.inputs + len(netlist.gates)
 
 
+def check_arrivals(netlist, arrivals):
+    """Check 16: one arrival for each input, then none over 9,999."""
+    if len(arrivals) != netlist.inputs:
+        raise Refusal(ARRIVAL, netlist.inputs)
+    for place, arrival in enumerate(arrivals):
+        if arrival > MOST_ARRIVAL:
+            raise Refusal(ARRIVAL, place)
+
+
+def read_circuit(data, arrivals):
+    """The circuit of a file whose inputs arrive at these times; checks 1 to 7, then 16."""
+    netlist = read_netlist(data)
+    check_arrivals(netlist, arrivals)
+    return netlist
+
+
 # Settling
 
 
@@ -184,9 +201,9 @@ def gate_time(kind, pins):
     return max(ready for _, ready in pins)
 
 
-def settle(netlist, vector):
-    """Value and settling time of all nodes, from the inputs up (rules S1, S2 and S5)."""
-    values, times = list(vector), [0] * netlist.inputs
+def settle(netlist, arrivals, vector):
+    """Value and settling time of all nodes, from the inputs up, each settled at its arrival (rules S1, S2 and S5)."""
+    values, times = list(vector), list(arrivals)
     for gate in netlist.gates:
         pins = [(values[pin.driver], times[pin.driver] + pin.delay) for pin in gate.pins]
         values.append(gate_value(gate.kind, [value for value, _ in pins]))
@@ -208,16 +225,20 @@ def check_room(room, needed):
 # The formula for a target
 
 
-def tops_of(netlist):
-    """The top of each node, the longest way to it counted in delays (rule S7)."""
-    tops = [0] * netlist.inputs
+def tops_of(netlist, arrivals):
+    """The top of each node: an input's arrival, and the longest way to a gate counted in delays (rule S7)."""
+    tops = list(arrivals)
     for gate in netlist.gates:
         tops.append(max(tops[pin.driver] + pin.delay for pin in gate.pins))
     return tops
 
 
-def late(tops, node, t):
-    """That a node is late at t: decided outright at 0 or below and above the top, else open, a pair (rule F2)."""
+def late(netlist, tops, node, t):
+    """That a node is late at t (rule F2): an input up to its arrival and not beyond; of a gate decided outright at 0 or
+    below and above the top, else open, a pair.
+    """
+    if node < netlist.inputs:
+        return SURE if t <= tops[node] else NEVER
     if t <= 0:
         return SURE
     if t > tops[node]:
@@ -225,13 +246,13 @@ def late(tops, node, t):
     return (node, t)
 
 
-def pairs_of(netlist, target, limit):
+def pairs_of(netlist, arrivals, target, limit):
     """The pairs of a target (rule F4), in the order of their variables. Check 10: at most `limit` of them; the set only
     grows, so the search ends where it has passed the limit.
     """
-    tops = tops_of(netlist)
+    tops = tops_of(netlist, arrivals)
     found = set()
-    waiting = [late(tops, node, target) for node in netlist.outputs]
+    waiting = [late(netlist, tops, node, target) for node in netlist.outputs]
     while waiting:
         pair = waiting.pop()
         if pair in (SURE, NEVER) or pair in found:
@@ -241,7 +262,7 @@ def pairs_of(netlist, target, limit):
             raise Refusal(PAIRS, 0)
         node, t = pair
         gate = netlist.gates[node - netlist.inputs]
-        waiting += [late(tops, pin.driver, t - pin.delay) for pin in gate.pins]
+        waiting += [late(netlist, tops, pin.driver, t - pin.delay) for pin in gate.pins]
     return sorted(found)
 
 
@@ -293,14 +314,14 @@ def without_constants(clauses):
     return [[part for part in clause if part != NEVER] for clause in clauses if SURE not in clause]
 
 
-def clauses_for(netlist, target, pairs):
+def clauses_for(netlist, arrivals, target, pairs):
     """The formula's clauses: the gates', the pairs', the clause of the outputs (rules F8 and F13)."""
-    tops = tops_of(netlist)
+    tops = tops_of(netlist, arrivals)
     # The numbers after N are the pairs'.
     number_of = {pair: node_count(netlist) + 1 + place for place, pair in enumerate(pairs)}
 
     def part(node, t):
-        condition = late(tops, node, t)
+        condition = late(netlist, tops, node, t)
         return condition if condition in (SURE, NEVER) else number_of[condition]
 
     clauses = []
@@ -420,18 +441,18 @@ def call(work, rooms):
     return (answer, *[after(result, room) for result, room in zip(results, rooms)])
 
 
-def settle_checked(netlist, vector, values_room, times_room):
+def settle_checked(netlist, arrivals, vector, values_room, times_room):
     """Check 8, check 9 for values, then for times; then the values and times."""
     check_vector(netlist, vector)
     check_room(values_room, node_count(netlist))
     check_room(times_room, node_count(netlist))
-    return settle(netlist, vector)
+    return settle(netlist, arrivals, vector)
 
 
-def build_checked(netlist, target, pairs_room, formula_room):
+def build_checked(netlist, arrivals, target, pairs_room, formula_room):
     """Check 10, then 9 for the formula; the pairs, the clauses and the formula's numbers."""
-    pairs = pairs_of(netlist, target, pair_limit(pairs_room))
-    clauses = clauses_for(netlist, target, pairs)
+    pairs = pairs_of(netlist, arrivals, target, pair_limit(pairs_room))
+    clauses = clauses_for(netlist, arrivals, target, pairs)
     numbers = numbers_of(clauses)
     check_room(formula_room, len(numbers))
     return pairs, clauses, numbers
@@ -442,20 +463,20 @@ def table_of(pairs):
     return [number for pair in pairs for number in pair]
 
 
-def evaluate(data, vector, values_room, times_room):
+def evaluate(data, arrivals, vector, values_room, times_room):
     """Gives Settled or Refused, values, times; the checks as in rule C3."""
     def work():
-        netlist = read_netlist(data)
-        values, times = settle_checked(netlist, vector, values_room, times_room)
+        netlist = read_circuit(data, arrivals)
+        values, times = settle_checked(netlist, arrivals, vector, values_room, times_room)
         return Settled(circuit_time(netlist, times)), [values, times]
     return call(work, [values_room, times_room])
 
 
-def build(data, target, pairs_room, formula_room):
+def build(data, arrivals, target, pairs_room, formula_room):
     """Gives Built or Refused, pairs, formula; the checks as in rule C3."""
     def work():
-        netlist = read_netlist(data)
-        pairs, clauses, numbers = build_checked(netlist, target, pairs_room, formula_room)
+        netlist = read_circuit(data, arrivals)
+        pairs, clauses, numbers = build_checked(netlist, arrivals, target, pairs_room, formula_room)
         built = Built(node_count(netlist) + len(pairs), len(clauses), len(numbers), len(pairs))
         return built, [table_of(pairs), numbers]
     return call(work, [pairs_room, formula_room])
@@ -470,14 +491,15 @@ def check(variables, formula, refutation, propagation_room):
     return call(work, [propagation_room])
 
 
-def judge(data, delay, vector, refutation, values_room, times_room, pairs_room, formula_room, propagation_room):
+def judge(data, arrivals, delay, vector, refutation,
+          values_room, times_room, pairs_room, formula_room, propagation_room):
     """Gives Accepted or Refused, values, times, pairs, formula, propagation; the checks as in rule C3."""
     def work():
-        netlist = read_netlist(data)
-        values, times = settle_checked(netlist, vector, values_room, times_room)
+        netlist = read_circuit(data, arrivals)
+        values, times = settle_checked(netlist, arrivals, vector, values_room, times_room)
         if circuit_time(netlist, times) != delay:
             raise Refusal(WITNESS, circuit_time(netlist, times))
-        pairs, _, numbers = build_checked(netlist, delay + 1, pairs_room, formula_room)
+        pairs, _, numbers = build_checked(netlist, arrivals, delay + 1, pairs_room, formula_room)
         check_refutation(node_count(netlist) + len(pairs), numbers, refutation, propagation_room)
         return Accepted(), [values, times, table_of(pairs), numbers, []]
     return call(work, [values_room, times_room, pairs_room, formula_room, propagation_room])
@@ -498,14 +520,24 @@ def refused_line(number, place):
     return "refused %d %d\n" % (number, place)
 
 
+def no_arrivals(data):
+    """An arrival of 0 for each input of a file; none where the file is refused."""
+    try:
+        return [0] * read_netlist(data).inputs
+    except Refusal:
+        return []
+
+
 def formula_program(data):
-    """What the formula program prints for the bytes of a target and a netlist (rules W2 and W3)."""
+    """What the formula program prints for the bytes of a target and a netlist (rules W2 and W3); every input arrives
+    at 0.
+    """
     if len(data) < 4:
         return refused_line(SHORT, len(data))
     target, netlist = struct.unpack_from("<I", data)[0], data[4:]
     if len(netlist) > PROGRAM_NETLIST:
         return refused_line(ROOM, PROGRAM_NETLIST + 1)
-    answer, _, numbers = build(netlist, target, 2 * PROGRAM_PAIRS, PROGRAM_FORMULA)
+    answer, _, numbers = build(netlist, no_arrivals(netlist), target, 2 * PROGRAM_PAIRS, PROGRAM_FORMULA)
     if isinstance(answer, Refused):
         return refused_line(*answer)
     return dimacs(answer.variables, clauses_in(numbers[:answer.numbers]))

@@ -18,7 +18,7 @@
 #include <string.h>
 
 enum { EVALUATE = 1, BUILD, CHECK, JUDGE };
-enum { PATTERN = 0xAA, GUARD = 64, MOST_SLICES = 8 };
+enum { PATTERN = 0xAA, GUARD = 64, MOST_SLICES = 9 };
 
 /* A slice to read, with a copy to compare it with, or one lent for writing. */
 typedef struct {
@@ -132,9 +132,10 @@ static void give_large(uint64_t number)
 
 static void evaluate(void)
 {
-    slice *netlist = take_slice(1), *vector = take_slice(1);
+    slice *netlist = take_slice(1), *arrivals = take_slice(4), *vector = take_slice(1);
     slice *values = lend_slice(1), *times = lend_slice(4);
-    buzzlumen_evaluated answer = buzzlumen_evaluate(BYTES(netlist), BYTES(vector), BYTES(values), WORDS(times));
+    buzzlumen_evaluated answer =
+        buzzlumen_evaluate(BYTES(netlist), WORDS(arrivals), BYTES(vector), BYTES(values), WORDS(times));
     give_number(answer.number);
     give_number(answer.time);
     give_large(answer.place);
@@ -142,10 +143,11 @@ static void evaluate(void)
 
 static void build(void)
 {
-    slice *netlist = take_slice(1);
+    slice *netlist = take_slice(1), *arrivals = take_slice(4);
     uint32_t target = take_number();
     slice *pairs = lend_slice(4), *formula = lend_slice(4);
-    buzzlumen_built answer = buzzlumen_build(BYTES(netlist), target, WORDS(pairs), SIGNED(formula));
+    buzzlumen_built answer =
+        buzzlumen_build(BYTES(netlist), WORDS(arrivals), target, WORDS(pairs), SIGNED(formula));
     give_number(answer.number);
     give_number(answer.variables);
     give_large(answer.place);
@@ -165,14 +167,14 @@ static void check(void)
 
 static void judge(void)
 {
-    slice *netlist = take_slice(1);
+    slice *netlist = take_slice(1), *arrivals = take_slice(4);
     uint32_t delay = take_number();
     slice *vector = take_slice(1), *refutation = take_slice(4);
     slice *values = lend_slice(1), *times = lend_slice(4), *pairs = lend_slice(4), *formula = lend_slice(4);
     slice *propagation = lend_slice(1);
     buzzlumen_judged answer =
-        buzzlumen_judge(BYTES(netlist), delay, BYTES(vector), SIGNED(refutation), BYTES(values), WORDS(times),
-                        WORDS(pairs), SIGNED(formula), BYTES(propagation));
+        buzzlumen_judge(BYTES(netlist), WORDS(arrivals), delay, BYTES(vector), SIGNED(refutation), BYTES(values),
+                        WORDS(times), WORDS(pairs), SIGNED(formula), BYTES(propagation));
     give_number(answer.number);
     give_large(answer.place);
 }

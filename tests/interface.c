@@ -1,5 +1,5 @@
-/* The C interface as a host sees it: where each field of the answers lies, which parameters each function takes in which
- * order, and each function called twice, accepted and refused, with arguments that no exchange survives.
+/* The C interface as a host sees it: where each field of the answers lies, which parameters each function takes in
+ * which order, and each function called twice, accepted and refused, with arguments that no exchange survives.
  *
  * No contract of the library speaks of the order of fields and parameters; this program does. It is compiled against
  * include/buzzlumen.h and linked with the archive. First every call must answer as the rules say of circuit A. Then
@@ -35,21 +35,23 @@ LIES(buzzlumen_judged, place, 8, 8);
 SIZE(buzzlumen_judged, 16);
 
 /* The functions by their types: a slice is a pointer, then a length in elements. */
-static buzzlumen_evaluated (*const evaluate)(const uint8_t *, size_t, const uint8_t *, size_t, uint8_t *, size_t,
-                                             uint32_t *, size_t) = buzzlumen_evaluate;
-static buzzlumen_built (*const build)(const uint8_t *, size_t, uint32_t, uint32_t *, size_t, int32_t *,
-                                      size_t) = buzzlumen_build;
+static buzzlumen_evaluated (*const evaluate)(const uint8_t *, size_t, const uint32_t *, size_t, const uint8_t *, size_t,
+                                             uint8_t *, size_t, uint32_t *, size_t) = buzzlumen_evaluate;
+static buzzlumen_built (*const build)(const uint8_t *, size_t, const uint32_t *, size_t, uint32_t, uint32_t *, size_t,
+                                      int32_t *, size_t) = buzzlumen_build;
 static buzzlumen_checked (*const check)(uint32_t, const int32_t *, size_t, const int32_t *, size_t, uint8_t *,
                                         size_t) = buzzlumen_check;
-static buzzlumen_judged (*const judge)(const uint8_t *, size_t, uint32_t, const uint8_t *, size_t, const int32_t *,
-                                       size_t, uint8_t *, size_t, uint32_t *, size_t, uint32_t *, size_t, int32_t *,
-                                       size_t, uint8_t *, size_t) = buzzlumen_judge;
+static buzzlumen_judged (*const judge)(const uint8_t *, size_t, const uint32_t *, size_t, uint32_t, const uint8_t *,
+                                       size_t, const int32_t *, size_t, uint8_t *, size_t, uint32_t *, size_t,
+                                       uint32_t *, size_t, int32_t *, size_t, uint8_t *, size_t) = buzzlumen_judge;
 
 /* What is exchanged: two slices of one element type, or two fields of one type. */
 typedef enum {
     NOTHING,
     EVALUATE_NETLIST_VECTOR,
+    EVALUATE_ARRIVALS_TIMES,
     EVALUATE_NUMBER_TIME,
+    BUILD_ARRIVALS_PAIRS,
     BUILD_NUMBER_VARIABLES,
     BUILD_PLACE_CLAUSES,
     BUILD_PLACE_NUMBERS,
@@ -59,6 +61,8 @@ typedef enum {
     BUILD_NUMBERS_PAIRS,
     CHECK_FORMULA_REFUTATION,
     JUDGE_NETLIST_VECTOR,
+    JUDGE_ARRIVALS_TIMES,
+    JUDGE_ARRIVALS_PAIRS,
     JUDGE_REFUTATION_FORMULA,
     JUDGE_VALUES_PROPAGATION,
     JUDGE_TIMES_PAIRS,
@@ -68,7 +72,9 @@ typedef enum {
 static const char *const names[EXCHANGES] = {
     "nothing",
     "evaluate: netlist and vector",
+    "evaluate: arrivals and times",
     "evaluate: number and time",
+    "build: arrivals and pairs",
     "build: number and variables",
     "build: place and clauses",
     "build: place and numbers",
@@ -78,6 +84,8 @@ static const char *const names[EXCHANGES] = {
     "build: numbers and pairs",
     "check: formula and refutation",
     "judge: netlist and vector",
+    "judge: arrivals and times",
+    "judge: arrivals and pairs",
     "judge: refutation and formula",
     "judge: values and propagation",
     "judge: times and pairs",
@@ -143,14 +151,16 @@ static void swap_large(uint64_t *a, uint64_t *b)
     *b = kept;
 }
 
-/* Circuit A, its values and times under 1,0, its pairs and its formula at 3. */
+/* Circuit A, where a arrives at 4: its values and times under 1,0, its pairs and its formula at 3, which are those of
+ * an a that arrives at 0. */
 static const uint8_t circuit[48] = {
     1, 1, 0, 0, 3, 2, 1, 0, 5, 2, 3, 0, 0, 0, 3, 0, 2, 0, 1, 0, 1, 0, 1, 0,
     3, 0, 1, 0, 1, 0, 1, 0, 4, 0, 34, 0, 0, 0, 2, 0, 3, 0, 5, 0, 1, 0, 1, 0,
 };
+static const uint32_t a_late[2] = {4, 0};
 static const uint8_t one_zero[2] = {1, 0}, zero_one[2] = {0, 1};
 static const uint8_t values_of_a[5] = {1, 0, 1, 0, 0};
-static const uint32_t times_of_a[5] = {0, 0, 3, 1, 2};
+static const uint32_t times_of_a[5] = {4, 0, 7, 1, 2};
 static const uint32_t pairs_of_a[6] = {2, 1, 3, 2, 4, 3};
 static const int32_t formula_of_a[48] = {
     1, -3, 0, -1, 3, 0, 3, -4, 0, 2, -4, 0, -3, -2, 4, 0, -4, 5, 0, -2, 5, 0, 4, 2, -5, 0,
@@ -161,11 +171,16 @@ static const int32_t empty_clause[1] = {0};
 /* Under 1,0 circuit A settles at 2; a file of 5 bytes is SHORT, 5. */
 static int evaluates(exchange which, size_t bytes)
 {
-    lent netlist = copied(circuit, bytes, 1), vector = copied(one_zero, 2, 1), values = room(6), times = room(7);
+    lent netlist = copied(circuit, bytes, 1), arrivals = copied(a_late, 2, 4), vector = copied(one_zero, 2, 1);
+    lent values = room(6), times = room(7);
     if (which == EVALUATE_NETLIST_VECTOR)
         swap_slices(&netlist, &vector);
-    buzzlumen_evaluated answer = evaluate(netlist.bytes, netlist.length, vector.bytes, vector.length, values.bytes,
-                                          values.length, times.words, times.length);
+    if (which == EVALUATE_ARRIVALS_TIMES)
+        swap_slices(&arrivals, &times);
+    buzzlumen_evaluated answer = evaluate(netlist.bytes, netlist.length, arrivals.words, arrivals.length, vector.bytes,
+                                          vector.length, values.bytes, values.length, times.words, times.length);
+    if (which == EVALUATE_ARRIVALS_TIMES)
+        swap_slices(&arrivals, &times);
     if (which == EVALUATE_NUMBER_TIME)
         swap_words(&answer.number, &answer.time);
     if (bytes < 14)
@@ -178,9 +193,13 @@ static int evaluates(exchange which, size_t bytes)
 /* At 3: 8 variables, 15 clauses, 48 numbers, 3 pairs; with room for 47 numbers it is ROOM, 48. */
 static int builds(exchange which, size_t numbers)
 {
-    lent netlist = copied(circuit, 48, 1), pairs = room(8), formula = room(numbers);
-    buzzlumen_built answer =
-        build(netlist.bytes, netlist.length, 3, pairs.words, pairs.length, formula.numbers, formula.length);
+    lent netlist = copied(circuit, 48, 1), arrivals = copied(a_late, 2, 4), pairs = room(8), formula = room(numbers);
+    if (which == BUILD_ARRIVALS_PAIRS)
+        swap_slices(&arrivals, &pairs);
+    buzzlumen_built answer = build(netlist.bytes, netlist.length, arrivals.words, arrivals.length, 3, pairs.words,
+                                   pairs.length, formula.numbers, formula.length);
+    if (which == BUILD_ARRIVALS_PAIRS)
+        swap_slices(&arrivals, &pairs);
     if (which == BUILD_NUMBER_VARIABLES)
         swap_words(&answer.number, &answer.variables);
     if (which == BUILD_PLACE_CLAUSES)
@@ -208,7 +227,8 @@ static int checks(exchange which, size_t steps)
 {
     static const int32_t four[12] = {1, 2, 0, 1, -2, 0, -1, 2, 0, -1, -2, 0};
     static const int32_t right[3] = {1, 0, 0}, wrong[4] = {1, 0, 2, 0};
-    lent formula = copied(four, 12, 4), refutation = copied(steps == 3 ? right : wrong, steps, 4), propagation = room(5);
+    lent formula = copied(four, 12, 4), refutation = copied(steps == 3 ? right : wrong, steps, 4);
+    lent propagation = room(5);
     if (which == CHECK_FORMULA_REFUTATION)
         swap_slices(&formula, &refutation);
     buzzlumen_checked answer = check(2, formula.numbers, formula.length, refutation.numbers, refutation.length,
@@ -220,10 +240,15 @@ static int checks(exchange which, size_t steps)
 /* Delay 2 with vector 1,0 and the refutation "0" is accepted; vector 0,1 settles at 1, WITNESS, 1. */
 static int judges(exchange which, const uint8_t *bits)
 {
-    lent netlist = copied(circuit, 48, 1), vector = copied(bits, 2, 1), refutation = copied(empty_clause, 1, 4);
+    lent netlist = copied(circuit, 48, 1), arrivals = copied(a_late, 2, 4), vector = copied(bits, 2, 1);
+    lent refutation = copied(empty_clause, 1, 4);
     lent values = room(6), times = room(7), pairs = room(8), formula = room(50), propagation = room(11);
     if (which == JUDGE_NETLIST_VECTOR)
         swap_slices(&netlist, &vector);
+    if (which == JUDGE_ARRIVALS_TIMES)
+        swap_slices(&arrivals, &times);
+    if (which == JUDGE_ARRIVALS_PAIRS)
+        swap_slices(&arrivals, &pairs);
     if (which == JUDGE_REFUTATION_FORMULA)
         swap_slices(&refutation, &formula);
     if (which == JUDGE_VALUES_PROPAGATION)
@@ -231,9 +256,13 @@ static int judges(exchange which, const uint8_t *bits)
     if (which == JUDGE_TIMES_PAIRS)
         swap_slices(&times, &pairs);
     buzzlumen_judged answer =
-        judge(netlist.bytes, netlist.length, 2, vector.bytes, vector.length, refutation.numbers, refutation.length,
-              values.bytes, values.length, times.words, times.length, pairs.words, pairs.length, formula.numbers,
-              formula.length, propagation.bytes, propagation.length);
+        judge(netlist.bytes, netlist.length, arrivals.words, arrivals.length, 2, vector.bytes, vector.length,
+              refutation.numbers, refutation.length, values.bytes, values.length, times.words, times.length,
+              pairs.words, pairs.length, formula.numbers, formula.length, propagation.bytes, propagation.length);
+    if (which == JUDGE_ARRIVALS_TIMES)
+        swap_slices(&arrivals, &times);
+    if (which == JUDGE_ARRIVALS_PAIRS)
+        swap_slices(&arrivals, &pairs);
     if (which == JUDGE_VALUES_PROPAGATION)
         swap_slices(&values, &propagation);
     if (which == JUDGE_TIMES_PAIRS)

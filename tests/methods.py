@@ -1,5 +1,5 @@
 """Second ways to the answers of docs/RULES.md, each by another method than tests/document.py, and the makers of test
-circuits, vectors and damaged files.
+circuits, arrivals, vectors and damaged files.
 
 Settling is simulated as waveforms of three values in time order; the formula is built by recursion with sets and
 dictionaries, its controlling values found from the gates' truth tables; unit propagation watches two literals a
@@ -13,8 +13,8 @@ import itertools
 import struct
 import sys
 
-from document import (AND, BUF, MOST_DELAY, MOST_GATES, MOST_INPUTS, MOST_OUTPUTS, MOST_PINS, MUX, NAND, NOR, NOT, OR,
-                      XNOR, XOR, Gate, Netlist, Pin, node_count)
+from document import (AND, BUF, MOST_ARRIVAL, MOST_DELAY, MOST_GATES, MOST_INPUTS, MOST_OUTPUTS, MOST_PINS, MUX, NAND,
+                      NOR, NOT, OR, XNOR, XOR, Gate, Netlist, Pin, node_count)
 
 UNKNOWN = None
 
@@ -41,8 +41,10 @@ def known_output(kind, pins):
     return 1 - plain
 
 
-def waveforms(netlist, vector):
-    """The final value of each node and the moment at which it becomes known, by events in time order."""
+def waveforms(netlist, arrivals, vector):
+    """The final value of each node and the moment at which it becomes known, by events in time order; an input is
+    known from its arrival on.
+    """
     readers = [[] for _ in range(node_count(netlist))]
     for g, gate in enumerate(netlist.gates):
         for place, pin in enumerate(gate.pins):
@@ -56,8 +58,8 @@ def waveforms(netlist, vector):
         for g, place, delay in readers[node]:
             heapq.heappush(events, (moment + delay, g, place, value))
 
-    for node, value in enumerate(vector):
-        becomes_known(0, node, value)
+    for node, (arrival, value) in enumerate(zip(arrivals, vector)):
+        becomes_known(arrival, node, value)
     while events:
         moment, g, place, value = heapq.heappop(events)
         seen[g][place] = value
@@ -74,11 +76,13 @@ def all_vectors(inputs):
     return itertools.product((0, 1), repeat=inputs)
 
 
-def true_delay(netlist):
-    """The largest settling time over all vectors, by trying them all; with the first vector that reaches it."""
+def true_delay(netlist, arrivals=None):
+    """The largest settling time over all vectors, by trying them all; with the first vector that reaches it. Where no
+    arrivals are given, all inputs arrive at 0.
+    """
     best = (-1, None)
     for vector in all_vectors(netlist.inputs):
-        _, times = waveforms(netlist, vector)
+        _, times = waveforms(netlist, arrivals or in_time(netlist), vector)
         last = max(times[node] for node in netlist.outputs)
         if last > best[0]:
             best = (last, vector)
@@ -110,8 +114,8 @@ def controlling(kind, count):
 class Late:
     """Who is late when: tops and wanted times by recursion from the outputs, kept in dictionaries and sets."""
 
-    def __init__(self, netlist, target):
-        self.netlist, self.target = netlist, target
+    def __init__(self, netlist, arrivals, target):
+        self.netlist, self.arrivals, self.target = netlist, dict(enumerate(arrivals)), target
         self.top_of, self.times_of = {}, {}
         sys.setrecursionlimit(max(sys.getrecursionlimit(), 10000))
         for node in netlist.outputs:
@@ -124,14 +128,21 @@ class Late:
         return self.netlist.gates[node - self.netlist.inputs].pins if node >= self.netlist.inputs else []
 
     def top(self, node):
-        """The longest sum of delays to a node."""
+        """The latest moment at which a node can settle, if every sum of delays to it counts."""
         if node not in self.top_of:
-            self.top_of[node] = max([self.top(pin.driver) + pin.delay for pin in self.pins(node)], default=0)
+            self.top_of[node] = max([self.top(pin.driver) + pin.delay for pin in self.pins(node)],
+                                    default=self.arrivals.get(node))
         return self.top_of[node]
+
+    def surely(self, node, t):
+        """Whether a node is late at a time under every vector: a gate is at no time above 0."""
+        return t <= self.arrivals.get(node, 0)
 
     def want(self, node, t):
         """Ask for a node at a time, and for its drivers in turn."""
-        if 0 < t <= self.top(node) and t not in self.times_of.setdefault(node, set()):
+        if self.surely(node, t) or t > self.top(node):
+            return
+        if t not in self.times_of.setdefault(node, set()):
             self.times_of[node].add(t)
             for pin in self.pins(node):
                 self.want(pin.driver, t - pin.delay)
@@ -142,7 +153,7 @@ class Late:
         for part in lates:
             if isinstance(part, int):
                 clause.append(part)
-            elif part[1] <= 0:
+            elif self.surely(*part):
                 return []
             elif part[1] <= self.top(part[0]):
                 clause.append(self.number_of[part])
@@ -166,9 +177,9 @@ def truth_clauses(node, gate):
             for x in (0, 1) for y in (0, 1)]
 
 
-def formula(netlist, target):
+def formula(netlist, arrivals, target):
     """The pairs in order and the formula as lists of numbers, each clause with its 0."""
-    lateness = Late(netlist, target)
+    lateness = Late(netlist, arrivals, target)
     clauses = []
     for g, gate in enumerate(netlist.gates):
         clauses += truth_clauses(netlist.inputs + g, gate)
@@ -280,7 +291,7 @@ def first_gap(clauses, steps):
     return None
 
 
-# Makers of circuits and vectors
+# Makers of circuits, arrivals and vectors
 
 KINDS = (BUF, NOT, AND, NAND, OR, NOR, XOR, XNOR, MUX)
 
@@ -403,6 +414,40 @@ def largest_netlist(dice):
              for g, (kind, count) in enumerate(zip(kinds, counts))]
     nodes = MOST_INPUTS + MOST_GATES
     return Netlist(MOST_INPUTS, gates, sorted(dice.sample(range(nodes), MOST_OUTPUTS)))
+
+
+def in_time(netlist):
+    """Arrivals of 0 for all inputs of a circuit."""
+    return [0] * netlist.inputs
+
+
+def random_arrivals(dice, inputs):
+    """Arrivals for so many inputs: all 0, small ones, one late input, some of a delay's size, any, or the two ends."""
+    style = dice.randrange(7)
+    if style < 2:
+        return [0] * inputs
+    if style == 2:
+        return [dice.randrange(4) for _ in range(inputs)]
+    if style == 3:
+        late = dice.randrange(inputs)
+        return [dice.randint(1, 40) if place == late else 0 for place in range(inputs)]
+    if style == 4:
+        return [dice.choice((0, dice.randrange(MOST_DELAY + 1))) for _ in range(inputs)]
+    if style == 5:
+        return [dice.randrange(MOST_ARRIVAL + 1) for _ in range(inputs)]
+    return [dice.choice((0, 1, MOST_ARRIVAL - 1, MOST_ARRIVAL)) for _ in range(inputs)]
+
+
+def bad_arrivals(dice, inputs):
+    """Arrivals that check 16 refuses: of another number, or with one or two over 9,999; or both."""
+    arrivals = random_arrivals(dice, inputs)
+    style = dice.randrange(4)
+    if style != 0:
+        for _ in range(dice.randint(1, 2)):
+            arrivals[dice.randrange(inputs)] = dice.choice((10000, 10001, 16384, 65536, 2 ** 31, 2 ** 32 - 1))
+    if style < 2:
+        arrivals = (arrivals * 3)[:dice.choice((0, inputs - 1, inputs + 1, inputs + dice.randint(1, 2 * inputs)))]
+    return arrivals
 
 
 def random_vector(dice, inputs):

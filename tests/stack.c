@@ -18,6 +18,7 @@ static const uint8_t netlist[48] = {
     0, 0, 3, 0, 2, 0, 1, 0, 1, 0, 1, 0, 3, 0, 1, 0, 1, 0, 1, 0,
     4, 0, 34, 0, 0, 0, 2, 0, 3, 0, 5, 0, 1, 0, 1, 0,
 };
+static const uint32_t arrivals[2];
 static const uint8_t vector[2];
 static const int32_t refutation[1];
 static uint8_t values[5], propagation[9];
@@ -37,11 +38,11 @@ static uint8_t *frame;
         return NULL;                       \
     }
 
-CALL(evaluate, buzzlumen_evaluate(netlist, 48, vector, 2, values, 5, times, 5))
-CALL(build, buzzlumen_build(netlist, 48, 3, pairs, 6, formula, 48))
+CALL(evaluate, buzzlumen_evaluate(netlist, 48, arrivals, 2, vector, 2, values, 5, times, 5))
+CALL(build, buzzlumen_build(netlist, 48, arrivals, 2, 3, pairs, 6, formula, 48))
 CALL(check, buzzlumen_check(8, formula, 48, refutation, 1, propagation, 9))
-CALL(judge, buzzlumen_judge(netlist, 48, 2, vector, 2, refutation, 1, values, 5, times, 5, pairs, 6, formula, 48,
-                            propagation, 9))
+CALL(judge, buzzlumen_judge(netlist, 48, arrivals, 2, 2, vector, 2, refutation, 1, values, 5, times, 5, pairs, 6,
+                            formula, 48, propagation, 9))
 
 static void measure(const char *name, void *(*call)(void *))
 {

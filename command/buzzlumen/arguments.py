@@ -1,25 +1,17 @@
-"""The command's words: one tree of subcommands, from which the help, the man page and the completion are made."""
+"""The command's words: what each subcommand takes, told to whatever reads words.
 
-import argparse
-
-from . import __version__
-
-STATUS = """exit status:
-  0  an answer            2  a slip in what was asked: a word, a file that does not read, an output that stands already
-  1  a refusal            3  something of the machine: no solver, no library, no room on the disk
-  Of several circuits, the largest. An interrupt ends with 130."""
-
-DESCRIPTION = """The true delay of a circuit, with a certificate that anyone can check, by a library that is proved.
-Answers go to standard output, the same in plain words to standard error."""
+tree.py makes argparse's tree of it, from which the help, the man page and the completion are made; plain.py reads by it
+without argparse. `add` gives what has argparse's calls for a subcommand's arguments.
+"""
 
 CIRCUIT_HELP = "a circuit: its text or a netlist file, known by its content; - is standard input"
+ARRIVALS_HELP = ("when inputs arrive: b=25,c=3 sets these and leaves the others as the text has them, 0,25,3 sets all; "
+                 "in a netlist file all arrive at 0")
 
 
-class Wide(argparse.RawDescriptionHelpFormatter):
-    """Help as it is written, as wide on every terminal."""
-
-    def __init__(self, prog):
-        super().__init__(prog, max_help_position=28, width=110)
+def add_arrivals(parser):
+    """The option of a command that asks about a circuit."""
+    parser.add_argument("--arrivals", metavar="TIMES", help=ARRIVALS_HELP)
 
 
 def add_output(parser, what):
@@ -32,9 +24,10 @@ def add_times(add):
     """times"""
     parser = add("times", "values and settling times under a vector, or of every vector of at most 6 inputs",
                  "buzzlumen times circuit_a.txt 0,1\n  buzzlumen times circuit_a.txt a=0 b=1\n"
-                 "  buzzlumen times circuit_a.txt")
+                 "  buzzlumen times circuit_a.txt --arrivals b=3")
     parser.add_argument("circuit", metavar="CIRCUIT", help=CIRCUIT_HELP)
     parser.add_argument("vector", metavar="VALUE", nargs="*", help="the vector: 0,1 or 01 or a=0 b=1")
+    add_arrivals(parser)
 
 
 def add_formula(add):
@@ -43,6 +36,7 @@ def add_formula(add):
                  "buzzlumen formula circuit_a.txt 3 --names -o late_at_3.cnf")
     parser.add_argument("circuit", metavar="CIRCUIT", help=CIRCUIT_HELP)
     parser.add_argument("target", metavar="T", help="the target time")
+    add_arrivals(parser)
     parser.add_argument("--names", action="store_true", help="say what each variable means, in comment lines")
     add_output(parser, "the formula")
 
@@ -65,14 +59,16 @@ def add_judge(add):
     parser.add_argument("--delay", metavar="D", help="in place of a certificate: the delay")
     parser.add_argument("--vector", metavar="VALUE", nargs="+", help="and a vector that settles at it")
     parser.add_argument("--refutation", metavar="FILE", help="and a refutation of the formula for D + 1")
+    add_arrivals(parser)
 
 
 def add_delay(add):
     """delay"""
     parser = add("delay", "find the true delay of circuits, and a certificate that the library accepts",
                  "buzzlumen delay circuit_a.txt -o circuit_a.certificate\n"
-                 "  buzzlumen delay circuit_a.txt circuit_b.txt")
+                 "  buzzlumen delay circuit_a.txt circuit_b.txt\n  buzzlumen delay circuit_a.txt --arrivals b=3")
     parser.add_argument("circuits", metavar="CIRCUIT", nargs="+", help=CIRCUIT_HELP)
+    add_arrivals(parser)
     parser.add_argument("--solver", metavar="NAME", help="cadical or picosat; else the first that is installed")
     parser.add_argument("--seconds", metavar="N", help="give up where the solver takes longer for one question")
     parser.add_argument("--figures", action="store_true", help="say how long the solver took, and the whole")
@@ -88,8 +84,10 @@ def add_explain(add):
 def add_netlist(add):
     """netlist"""
     parser = add("netlist", "turn a circuit's text into a netlist file, or a netlist file into text",
-                 "buzzlumen netlist circuit_a.txt -o circuit_a.netlist\n  buzzlumen netlist circuit_a.netlist")
+                 "buzzlumen netlist circuit_a.txt -o circuit_a.netlist\n  buzzlumen netlist circuit_a.netlist\n"
+                 "  buzzlumen netlist circuit_a.netlist --arrivals n1=3")
     parser.add_argument("circuit", metavar="CIRCUIT", help=CIRCUIT_HELP)
+    add_arrivals(parser)
     form = parser.add_mutually_exclusive_group()
     form.add_argument("--text", action="store_true", help="write text, whatever is read")
     form.add_argument("--bytes", action="store_true", help="write a netlist file, whatever is read")
@@ -122,20 +120,3 @@ def add_man(add):
 
 COMMANDS = (add_times, add_formula, add_check, add_judge, add_delay, add_explain, add_netlist, add_from_yosys,
             add_completion, add_man)
-
-
-def parser():
-    """The tree of subcommands."""
-    whole = argparse.ArgumentParser(prog="buzzlumen", description=DESCRIPTION, epilog=STATUS, formatter_class=Wide,
-                                    allow_abbrev=False)
-    whole.add_argument("--version", action="version", version=f"buzzlumen {__version__}")
-    below = whole.add_subparsers(dest="command", metavar="COMMAND", title="commands")
-
-    def add(name, says, example):
-        sentence = says[0].upper() + says[1:] + ("" if says.endswith("?") else ".")
-        return below.add_parser(name, help=says, description=sentence, epilog=f"example:\n  {example}",
-                                formatter_class=Wide, allow_abbrev=False)
-
-    for command in COMMANDS:
-        command(add)
-    return whole

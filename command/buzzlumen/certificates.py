@@ -2,32 +2,36 @@
 
     buzzlumen certificate 1
     netlist sha256 64 hexadecimal digits
-    delay 2
-    vector a=0 b=0
+    arrivals b=25
+    delay 27
+    vector a=1 b=0
     refutation 1
     0
 
-A line that this version does not know is refused by its name, so that a later one may add some.
+The line of arrivals is there where an input arrives after 0, and names those inputs. A line that this version does not
+know is refused by its name, so that a later one may add some.
 """
 
 import array
-import re
 from collections import namedtuple
 
 from . import files
+from .arrivals import late_inputs
 from .formulas import clause_text
 from .netlist import TRAILER
 from .refutations import Refutation, row
 from .trouble import Refused, Slip
-from .vectors import PART, shown_vector
+from .vectors import named_value, shown_vector
 from .words import MOST_NUMBER, count, lines_of, number_in, shown
 
 FIRST_LINE = "buzzlumen certificate 1"
-DIGEST = re.compile(r"[0-9a-f]{64}")
-KNOWN = ("netlist", "delay", "vector", "refutation")
+DIGEST_DIGITS = 64
+KNOWN = ("netlist", "arrivals", "delay", "vector", "refutation")
+NOT_NEEDED = ("arrivals",)
 
-# A certificate: the netlist's digest, the delay, the vector as names and values, the refutation.
-Certificate = namedtuple("Certificate", "path digest delay names values refutation")
+# A certificate: the netlist's digest, the delay, the inputs' names in the vector's order, with the arrival and the
+# value of each, the refutation.
+Certificate = namedtuple("Certificate", "path digest delay names arrivals values refutation")
 
 
 def digest_of(data):
@@ -39,7 +43,9 @@ def digest_of(data):
 
 def write_certificate(circuit, delay, vector, refutation):
     """The text of a certificate."""
-    lines = [FIRST_LINE, f"netlist sha256 {digest_of(circuit.data)}", f"delay {delay}",
+    late = late_inputs(circuit.names, circuit.arrivals)
+    arrivals = ["arrivals " + " ".join(late)] if late else []
+    lines = [FIRST_LINE, f"netlist sha256 {digest_of(circuit.data)}", *arrivals, f"delay {delay}",
              f"vector {shown_vector(vector, circuit.names)}", f"refutation {sum(1 for n in refutation if n == 0)}"]
     return "".join(line + "\n" for line in lines) + clause_text(refutation)
 
@@ -71,7 +77,7 @@ class Reading:
     def read_netlist(self, place, rest):
         """The digest."""
         method, _, digest = rest.partition(" ")
-        if method != "sha256" or not DIGEST.fullmatch(digest):
+        if method != "sha256" or len(digest) != DIGEST_DIGITS or digest.strip("0123456789abcdef"):
             raise self.slip(place, "a digest is sha256 and 64 hexadecimal digits")
         return digest
 
@@ -82,16 +88,25 @@ class Reading:
             raise self.slip(place, f"a delay is a number from 0 to {MOST_NUMBER}, not {shown(rest)}")
         return delay
 
+    def read_arrivals(self, place, rest):
+        """The arrivals by name, with the line."""
+        wrong = "arrivals names inputs and when they arrive, as b=25"
+        return place, self.numbers_by_name(place, rest, MOST_NUMBER, wrong, "an arrival")
+
     def read_vector(self, place, rest):
-        """The inputs' names and values."""
-        parts = [PART.fullmatch(word) for word in rest.split()]
-        values = [number_in(part[2], 1) if part else None for part in parts]
-        if not parts or None in values:
-            raise self.slip(place, "a vector names each input and its value, 0 or 1, as a=0 b=1")
-        names = [part[1] for part in parts]
-        if len(set(names)) < len(names):
-            raise self.slip(place, "an input has a value twice")
-        return names, values
+        """The values by name."""
+        wrong = "a vector names each input and its value, 0 or 1, as a=0 b=1"
+        return self.numbers_by_name(place, rest, 1, wrong, "a value")
+
+    def numbers_by_name(self, place, rest, most, wrong, what):
+        """A number for each name of a line."""
+        parts = [named_value(word, most) for word in rest.split()]
+        number_of = dict(parts)
+        if not parts or None in number_of.values():
+            raise self.slip(place, wrong)
+        if len(number_of) < len(parts):
+            raise self.slip(place, f"an input has {what} twice")
+        return number_of
 
     def read_refutation(self, place, rest):
         """The number of steps."""
@@ -110,7 +125,7 @@ class Reading:
 
     def whole(self):
         """The certificate, when every line has been read."""
-        missing = [word for word in KNOWN if word not in self.found]
+        missing = [word for word in KNOWN if word not in self.found and word not in NOT_NEEDED]
         if missing:
             raise Slip(f"{files.name_of(self.path)}: the certificate has no line {missing[0]}")
         steps = self.found["refutation"]
@@ -119,8 +134,18 @@ class Reading:
                        f"{len(self.file_lines)}")
         lines = array.array("I", range(1, steps + 1))
         refutation = Refutation(self.path, self.numbers, self.file_lines, lines, False, False)
-        names, values = self.found["vector"]
-        return Certificate(self.path, self.found["netlist"], self.found["delay"], names, values, refutation)
+        value_of = self.found["vector"]
+        arrivals = [self.arrival_of().get(name, 0) for name in value_of]
+        return Certificate(self.path, self.found["netlist"], self.found["delay"], list(value_of), arrivals,
+                           list(value_of.values()), refutation)
+
+    def arrival_of(self):
+        """The arrivals by name; each name is one of the vector's."""
+        place, arrival_of = self.found.get("arrivals", (0, {}))
+        for name in arrival_of:
+            if name not in self.found["vector"]:
+                raise self.slip(place, f"{shown(name)} has an arrival, and the vector does not name it")
+        return arrival_of
 
 
 def read_certificate(path):
@@ -157,16 +182,31 @@ def check_digest(certificate, circuit):
 
 
 def vector_for(certificate, circuit):
-    """The certificate's values in the order of the circuit's inputs: by name, or in their order where one side has no
-    names but n0, n1 and so on."""
+    """The certificate's values in the order of the circuit's inputs."""
+    return bytes(in_order(certificate, circuit, certificate.values))
+
+
+def check_arrivals(certificate, circuit):
+    """A refusal where the certificate is for other arrivals than the circuit's."""
+    theirs = in_order(certificate, circuit, certificate.arrivals)
+    for name, there, here in zip(circuit.names, theirs, circuit.arrivals):
+        if there != here:
+            hint = "; a netlist file holds no arrivals, --arrivals sets them" if circuit.plain else ""
+            raise Refused(f"{files.name_of(certificate.path)}: is for other arrivals: {name} arrives at {there} there, "
+                          f"and at {here} here{hint}")
+
+
+def in_order(certificate, circuit, numbers):
+    """The numbers that a certificate has for its names, in the order of the circuit's inputs: by name, or as they stand
+    where one side has no names but n0, n1 and so on."""
     inputs = circuit.names[:circuit.netlist.inputs]
-    value_of = dict(zip(certificate.names, certificate.values))
-    if set(value_of) == set(inputs):
-        return bytes(value_of[name] for name in inputs)
+    number_of = dict(zip(certificate.names, numbers))
+    if set(number_of) == set(inputs):
+        return [number_of[name] for name in inputs]
     plain = [f"n{node}" for node in range(len(certificate.names))]
     if circuit.plain or certificate.names == plain:
-        return bytes(certificate.values)
+        return numbers
     unknown = [name for name in certificate.names if name not in inputs] or \
-              [name for name in inputs if name not in value_of]
+              [name for name in inputs if name not in number_of]
     raise Refused(f"{files.name_of(certificate.path)}: its vector does not name the circuit's inputs, as {unknown[0]} "
                   "shows")

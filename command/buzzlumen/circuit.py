@@ -7,28 +7,28 @@
     n4 = OR(n3:1, b:1)
     output n4
 
-One statement a line; `#` starts a comment. Inputs come first. A pin is the name of an input or of a gate on a line
-above, a colon, and the pin's delay, 0 to 999. MUX takes its pins as select, a, b. A name is any run of printable
-characters but blanks and ( ) , : = #. Outputs may be named in any order.
+One statement a line; `#` starts a comment. Inputs come first; one that arrives late has a colon and its arrival behind
+its name, as b:25, and the others arrive at 0. A pin is the name of an input or of a gate on a line above, a colon, and
+the pin's delay, 0 to 999. MUX takes its pins as select, a, b. A name is any run of printable characters but blanks and
+( ) , : = #. Outputs may be named in any order.
 """
 
-import re
 from collections import namedtuple
 
 from . import files
-from .netlist import (KINDS, MOST_DELAY, MOST_GATES, MOST_INPUTS, MOST_OUTPUTS, MOST_PINS, PIN_COUNTS, Gate, Netlist,
-                      Pin, read_netlist, write_netlist)
-from .refusals import of_netlist
+from .arrivals import asked_arrivals
+from .netlist import (KINDS, MOST_ARRIVAL, MOST_DELAY, MOST_GATES, MOST_INPUTS, MOST_OUTPUTS, MOST_PINS, PIN_COUNTS,
+                      Gate, Netlist, Pin, read_netlist, write_netlist)
+from .refusals import ARRIVAL, of_arrivals, of_netlist
 from .trouble import Slip
-from .words import lines_of, number_in, printable, shown
+from .words import MOST_NUMBER, is_digits, is_name, lines_of, number_in, printable, shown
 
-NAME = r"[^\s(),:=#]+"
-GATE_LINE = re.compile(rf"({NAME})\s*=\s*({NAME})\s*\((.*)\)")
-PIN_WORD = re.compile(rf"({NAME})\s*:\s*(\S+)")
+# A circuit out of a file: the netlist file's bytes, the netlist, each input's arrival, the name of each node, inputs
+# first; `plain` says that the names are n0, n1 and so on, as a netlist file holds none.
+Circuit = namedtuple("Circuit", "path data netlist arrivals names plain")
 
-# A circuit out of a file: the netlist file's bytes, the netlist, the name of each node, inputs first;
-# `plain` says that the names are n0, n1 and so on, as a netlist file holds none.
-Circuit = namedtuple("Circuit", "path data netlist names plain")
+# What a text draws: the netlist, each input's arrival and the line that names it, the name of each node.
+Drawn = namedtuple("Drawn", "netlist arrivals lines names")
 
 
 class Mistake(Exception):
@@ -43,13 +43,15 @@ class Drawing:
 
     def __init__(self):
         self.number_of = {}
+        self.arrivals, self.lines = [], []
         self.gates = []
         self.outputs = set()
-        self.inputs = self.pins = 0
+        # The line that is being read, counted from 1.
+        self.inputs = self.pins = self.line = 0
 
     def name_node(self, name):
         """The next node gets a name of its own."""
-        if not re.fullmatch(NAME, name) or not name.isprintable():
+        if not is_name(name) or not name.isprintable():
             raise Mistake(f"{shown(name)} is no name: blanks and ( ) , : = # are kept for the format")
         if name in self.number_of:
             raise Mistake(f"{name} is named twice")
@@ -61,14 +63,15 @@ class Drawing:
             raise Mistake(f"{printable(name)} is no input and no gate of a line above")
         return self.number_of[name]
 
-    def add_inputs(self, names):
-        """A line `input NAME ...`."""
+    def add_inputs(self, words):
+        """A line `input NAME NAME:ARRIVAL ...`."""
         if self.gates:
             raise Mistake("inputs come before the first gate")
-        for name in names:
-            if re.fullmatch(rf"{NAME}:[0-9]+", name):
-                raise Mistake(f"{shown(name)}: an input's arrival time is not read yet; every input arrives at 0")
+        for word in words:
+            name, arrival = input_parts(word)
             self.name_node(name)
+            self.arrivals.append(arrival)
+            self.lines.append(self.line)
         self.inputs = len(self.number_of)
         at_most("inputs", self.inputs, MOST_INPUTS)
 
@@ -97,25 +100,23 @@ class Drawing:
 
     def pin(self, word):
         """A pin, `NAME:DELAY`."""
-        found = PIN_WORD.fullmatch(word)
-        if not found:
-            raise Mistake(f"{shown(word)} is no pin; a pin is a name, a colon and a delay, as b:1")
-        name, delay = found.groups()
-        if re.fullmatch(r"[0-9]+/[0-9]+", delay):
+        name, delay = (part.strip() for part in word.partition(":")[::2])
+        if is_name(name) and all(is_digits(part) for part in delay.split("/", 1)) and "/" in delay:
             raise Mistake(f"{shown(word)}: a delay for rising and one for falling are not read yet; write one")
-        if re.fullmatch(r"[0-9]+", delay) and number_in(delay, MOST_DELAY) is None:
-            raise Mistake(f"the delay {shown(delay)} of pin {printable(name)} is over {MOST_DELAY}")
-        if not re.fullmatch(r"[0-9]+", delay):
+        if not is_name(name) or not is_digits(delay):
             raise Mistake(f"{shown(word)} is no pin; a pin is a name, a colon and a delay, as b:1")
+        if number_in(delay, MOST_DELAY) is None:
+            raise Mistake(f"the delay {shown(delay)} of pin {printable(name)} is over {MOST_DELAY}")
         return Pin(self.node(name), number_in(delay, MOST_DELAY))
 
     def whole(self):
-        """The netlist and its names, when every line has been read."""
+        """What is drawn, when every line has been read."""
         if not self.inputs:
             raise Mistake("the circuit has no input")
         if not self.outputs:
             raise Mistake("the circuit has no output")
-        return Netlist(self.inputs, self.gates, sorted(self.outputs)), list(self.number_of)
+        netlist = Netlist(self.inputs, self.gates, sorted(self.outputs))
+        return Drawn(netlist, self.arrivals, self.lines, list(self.number_of))
 
 
 def at_most(what, number, most):
@@ -124,12 +125,38 @@ def at_most(what, number, most):
         raise Mistake(f"more than {most} {what}")
 
 
+def input_parts(word):
+    """The name and the arrival in a word `NAME` or `NAME:ARRIVAL`. Whether an arrival is too large is the library's to
+    say."""
+    name, colon, digits = word.partition(":")
+    if is_digits(word.rpartition("=")[2]) and "=" in word:
+        raise Mistake(f"{shown(word)}: in a circuit's text an arrival stands behind a colon, as b:25")
+    if not colon or not is_name(name):
+        return word, 0
+    if ":" in digits:
+        raise Mistake(f"{shown(word)}: a name holds no colon, one arrival stands behind it, as b:25, and blanks part "
+                      "the inputs")
+    arrival = number_in(digits, MOST_NUMBER)
+    if arrival is None:
+        raise Mistake(f"{shown(word)}: an arrival is a number from 0 to {MOST_ARRIVAL} right behind the colon, as b:25")
+    return name, arrival
+
+
+def gate_parts(line):
+    """The name, the kind and the words of the pins in a line `NAME = KIND(PIN, ...)`; None where it is no such line."""
+    name, _, rest = line.partition("=")
+    kind, bracket, pin_words = rest.partition("(")
+    name, kind = name.strip(), kind.strip()
+    if bracket and pin_words.endswith(")") and is_name(name) and is_name(kind):
+        return name, kind, pin_words.removesuffix(")")
+    return None
+
+
 def read_line(drawing, line):
     """One statement, without its comment."""
-    gate = GATE_LINE.fullmatch(line)
-    words = line.split()
+    gate, words = gate_parts(line), line.split()
     if gate:
-        drawing.add_gate(*gate.groups())
+        drawing.add_gate(*gate)
     elif words[:1] == ["input"] and words[1:]:
         drawing.add_inputs(words[1:])
     elif words[:1] == ["output"] and words[1:]:
@@ -139,22 +166,23 @@ def read_line(drawing, line):
 
 
 def read_text(text):
-    """The netlist and the names that a text draws; a Mistake says its line, counted from 1."""
-    drawing, number = Drawing(), 0
+    """What a text draws; a Mistake says its line, counted from 1."""
+    drawing = Drawing()
     try:
-        for number, line in enumerate(lines_of(text), 1):
+        for drawing.line, line in enumerate(lines_of(text), 1):
             read_line(drawing, line.partition("#")[0].strip())
         return drawing.whole()
     except Mistake as mistake:
-        raise Mistake(f"line {number}: {mistake}") from None
+        raise Mistake(f"line {drawing.line}: {mistake}") from None
 
 
 # Writing the text
 
 
-def write_text(netlist, names):
+def write_text(netlist, arrivals, names):
     """The text that draws a circuit."""
-    lines = ["input " + " ".join(names[:netlist.inputs])]
+    inputs = [f"{name}:{arrival}" if arrival else name for name, arrival in zip(names, arrivals)]
+    lines = ["input " + " ".join(inputs)]
     for name, gate in zip(names[netlist.inputs:], netlist.gates):
         pins = ", ".join(f"{names[pin.driver]}:{pin.delay}" for pin in gate.pins)
         lines.append(f"{name} = {gate.kind}({pins})")
@@ -170,36 +198,53 @@ def plain_names(netlist):
 # Circuits out of files
 
 
-def load(path, library):
-    """The circuit in a file, a text or a netlist file. The library alone says whether bytes are a netlist."""
+def load(path, library, asked=None):
+    """The circuit in a file, a text or a netlist file, with the arrivals that are asked for beside it. The library
+    alone says whether bytes are a netlist and numbers its arrivals."""
     data = files.read_bytes(path, files.MOST_NETLIST)
     kind = files.kind_of(data)
     if kind in (files.CERTIFICATE, files.FORMULA, files.YOSYS):
         hint = "; convert it by: buzzlumen from-yosys" if kind == files.YOSYS else ""
         raise Slip(f"{files.name_of(path)}: is {kind}, not a circuit{hint}")
-    if kind == files.CIRCUIT:
-        return load_text(path, data)
-    return load_netlist(path, data, library)
+    circuit = load_text(path, data, library) if kind == files.CIRCUIT else load_netlist(path, data, library)
+    if asked is not None:
+        circuit = circuit._replace(arrivals=asked_arrivals(asked, circuit))
+        check_arrivals(circuit, library)
+    return circuit
 
 
-def load_text(path, data):
+def check_arrivals(circuit, library, lines=None):
+    """The library's refusal of a circuit's arrivals, with its cause and, where a text has them, its line. Where every
+    input arrives at 0 there is nothing to ask."""
+    inputs = circuit.netlist.inputs
+    refusal = library.refusal_of(circuit.data, circuit.arrivals) if circuit.arrivals != [0] * inputs else None
+    if refusal:
+        where = f"{files.name_of(circuit.path)}, line {lines[refusal.place]}: " if lines else ""
+        refusal.words = where + of_arrivals(refusal.place, circuit.arrivals, circuit.names, inputs)
+        raise refusal
+
+
+def load_text(path, data, library):
     """The circuit that a text draws."""
     if len(data) > files.MOST_TEXT:
         raise Slip(files.too_large(path, files.MOST_TEXT))
     if not data.strip():
         raise Slip(f"{files.name_of(path)}: is empty")
     try:
-        netlist, names = read_text(files.text_of(path, data))
+        drawn = read_text(files.text_of(path, data))
     except Mistake as mistake:
         raise Slip(f"{files.name_of(path)}, {mistake}") from None
-    return Circuit(path, write_netlist(netlist), netlist, names, False)
+    circuit = Circuit(path, write_netlist(drawn.netlist), drawn.netlist, drawn.arrivals, drawn.names, False)
+    check_arrivals(circuit, library, drawn.lines)
+    return circuit
 
 
 def load_netlist(path, data, library):
-    """The circuit in a netlist file; the refusal where it is none."""
-    refusal = library.refusal_of(data)
-    if refusal:
+    """The circuit in a netlist file, every input at 0; the refusal where it is none. No arrivals are refused after all
+    that a netlist is refused for."""
+    refusal = library.refusal_of(data, ())
+    if refusal.number != ARRIVAL:
         refusal.words = f"{files.name_of(path)}: {of_netlist(refusal.number, refusal.place, data)}"
         raise refusal
     netlist = read_netlist(data)
-    return Circuit(path, data, netlist, plain_names(netlist), True)
+    return Circuit(path, data, netlist, [0] * netlist.inputs, plain_names(netlist), True)

@@ -9,8 +9,8 @@ import sys
 import time
 
 from . import files
-from .circuit import load, write_text
-from .formulas import Meanings, NoMeanings, dimacs, read_formula
+from .arrivals import late_inputs, late_words
+from .circuit import load, plain_names, write_text
 from .library import Refusal
 from .netlist import longest_path, tops_of
 from .refusals import (FORMULA, LAST, PAIRS, REFUTATION, STEP, TABLE, VECTOR, WITNESS, in_words, named, of_pairs,
@@ -28,7 +28,7 @@ MOST_SECONDS = 10 ** 6
 
 def times(asked, library, say):
     """Values and settling times."""
-    circuit = load(asked.circuit, library)
+    circuit = load(asked.circuit, library, asked.arrivals)
     if not asked.vector:
         return all_times(circuit, library, say)
     vector = read_vector(asked.vector, circuit)
@@ -39,14 +39,27 @@ def times(asked, library, say):
     outputs = ", ".join(f"{circuit.names[node]} settles to {settled.values[node]} at {settled.times[node]}"
                         for node in circuit.netlist.outputs)
     chosen = shown_vector(vector, circuit.names)
+    say_late(circuit, say)
     say.words(f"With {chosen}: {outputs}. The circuit settles at {settled.time}.")
     return 0
+
+
+def say_late(circuit, say):
+    """Which inputs arrive late, where one does."""
+    if late_words(circuit):
+        say.words(late_words(circuit))
+
+
+def path_words(circuit):
+    """The longest path in words."""
+    counted = ", arrivals counted" if any(circuit.arrivals) else ""
+    return f"The longest path adds up to {longest_path(circuit.netlist, circuit.arrivals)}{counted}."
 
 
 def settle(circuit, vector, library):
     """What the library says of a vector; a refusal with its cause."""
     try:
-        return library.evaluate(circuit.data, vector)
+        return library.evaluate(circuit.data, circuit.arrivals, vector)
     except Refusal as refusal:
         if refusal.number == VECTOR:
             refusal.words = of_vector(refusal.place, vector, circuit.names, circuit.netlist.inputs)
@@ -60,12 +73,13 @@ def all_times(circuit, library, say):
         raise Slip(f"{inputs} inputs have too many vectors to list; name one, as {'0' * inputs}")
     largest = 0
     for values in itertools.product((0, 1), repeat=inputs):
-        settled = library.evaluate(circuit.data, bytes(values))
+        settled = library.evaluate(circuit.data, circuit.arrivals, bytes(values))
         nodes = ", ".join(f"{name} at {moment}" for name, moment
                           in zip(circuit.names[inputs:], settled.times[inputs:]))
         say.answer(f"{shown_vector(values, circuit.names)} settles at {settled.time}" + (f": {nodes}" if nodes else ""))
         largest = max(largest, settled.time)
-    say.words(f"The largest time is {largest}. The longest path adds up to {longest_path(circuit.netlist)}.")
+    say_late(circuit, say)
+    say.words(f"The largest time is {largest}. {path_words(circuit)}")
     return 0
 
 
@@ -74,13 +88,16 @@ def all_times(circuit, library, say):
 
 def formula(asked, library, say):
     """The formula for a target."""
+    from .formulas import Meanings, dimacs
     files.check_free(asked.output, asked.force)
     target = asked_number(asked.target, "a target")
-    circuit = load(asked.circuit, library)
+    circuit = load(asked.circuit, library, asked.arrivals)
     built = build(circuit, target, library)
     meanings = Meanings(circuit.names, built.pairs)
-    say.write(dimacs(built, meanings.comments() if asked.names else ()).encode(), asked.output, asked.force)
+    comments = [*filter(None, [late_words(circuit)]), *meanings.comments()] if asked.names else ()
+    say.write(dimacs(built, comments).encode(), asked.output, asked.force)
     if not asked.names:
+        say_late(circuit, say)
         say.words(meanings.in_short())
     return 0
 
@@ -89,15 +106,17 @@ def build(circuit, target, library):
     """A formula, or the refusal with its cause."""
     from .search import count_pairs
     try:
-        return library.build(circuit.data, target)
+        return library.build(circuit.data, circuit.arrivals, target)
     except Refusal as refusal:
         if refusal.number == PAIRS:
-            refusal.words = of_pairs(target, count_pairs(circuit.netlist, tops_of(circuit.netlist), target))
+            tops = tops_of(circuit.netlist, circuit.arrivals)
+            refusal.words = of_pairs(target, count_pairs(circuit.netlist, tops, target))
         raise
 
 
 def check(asked, library, say):
     """Whether a refutation passes."""
+    from .formulas import NoMeanings, read_formula
     from .refutations import of_refutation, read_refutation
     asked_formula = read_formula(asked.formula)
     refutation = read_refutation(asked.refutation)
@@ -145,7 +164,7 @@ def judge(asked, library, say):
         raise Slip("name a certificate, or else --delay, --vector and --refutation")
     if asked.certificate is None and None in parts:
         raise Slip("without a certificate --delay, --vector and --refutation are needed, all three")
-    circuit = load(asked.circuit, library)
+    circuit = load(asked.circuit, library, asked.arrivals)
     if asked.certificate is not None:
         delay, vector, refutation = from_certificate(asked.certificate, circuit)
     else:
@@ -155,15 +174,17 @@ def judge(asked, library, say):
         say_if_empty(refutation, say)
     judged(circuit, delay, vector, refutation, library)
     say.answer("accepted")
+    say_late(circuit, say)
     say.words(true_delay_words(delay))
     return 0
 
 
 def from_certificate(path, circuit):
     """The parts of a certificate that is for a circuit."""
-    from .certificates import check_digest, read_certificate, vector_for
+    from .certificates import check_arrivals, check_digest, read_certificate, vector_for
     certificate = read_certificate(path)
     check_digest(certificate, circuit)
+    check_arrivals(certificate, circuit)
     return certificate.delay, vector_for(certificate, circuit), certificate.refutation
 
 
@@ -175,7 +196,7 @@ def true_delay_words(delay):
 def judged(circuit, delay, vector, refutation, library):
     """The library's verdict; a refusal with its cause."""
     try:
-        library.judge(circuit.data, delay, vector, refutation.numbers)
+        library.judge(circuit.data, circuit.arrivals, delay, vector, refutation.numbers)
     except Refusal as refusal:
         tell_judgement(refusal, circuit, delay, vector, refutation, library)
         raise
@@ -183,6 +204,7 @@ def judged(circuit, delay, vector, refutation, library):
 
 def tell_judgement(refusal, circuit, delay, vector, refutation, library):
     """Put the cause of a refused certificate into words."""
+    from .formulas import Meanings
     from .refutations import of_refutation
     if refusal.number == VECTOR:
         refusal.words = of_vector(refusal.place, vector, circuit.names, circuit.netlist.inputs)
@@ -235,8 +257,9 @@ def one_delay(path, output, asked, solver, limit, library, say):
     """Find one circuit's certificate and have it judged."""
     from .search import MOST_TRIED_INPUTS, by_solver, by_trying
     began = time.monotonic()
-    circuit, ran = load(path, library), None
-    say.words(f"The longest path adds up to {longest_path(circuit.netlist)}.")
+    circuit, ran = load(path, library, asked.arrivals), None
+    say_late(circuit, say)
+    say.words(path_words(circuit))
     if solver:
         found, ran = by_solver(circuit, library, solver, say.progress, limit)
     elif circuit.netlist.inputs > MOST_TRIED_INPUTS:
@@ -263,7 +286,7 @@ def one_delay(path, output, asked, solver, limit, library, say):
 def accept_found(circuit, found, library):
     """The library's verdict on what was found. A refusal is the finder's fault, not the asker's."""
     try:
-        library.judge(circuit.data, found.delay, found.vector, found.refutation)
+        library.judge(circuit.data, circuit.arrivals, found.delay, found.vector, found.refutation)
     except Refusal as refusal:
         raise OfTheMachine(f"what was found by {found.by} is refused: {refusal.words}") from None
 
@@ -300,11 +323,15 @@ def explain_refusal(asked, _library, say):
 def netlist(asked, library, say):
     """A circuit in the other form, or in the form that is asked for."""
     files.check_free(asked.output, asked.force)
-    circuit = load(asked.circuit, library)
+    circuit = load(asked.circuit, library, asked.arrivals)
     if asked.bytes or not (asked.text or circuit.plain):
         say.write_netlist(circuit.data, asked.output, asked.force)
+        if any(circuit.arrivals):
+            late = ",".join(late_inputs(plain_names(circuit.netlist), circuit.arrivals))
+            say.words(f"A netlist file holds no arrivals; beside this one give --arrivals {late}.")
     else:
-        say.write(write_text(circuit.netlist, circuit.names).encode(), asked.output, asked.force)
+        text = write_text(circuit.netlist, circuit.arrivals, circuit.names)
+        say.write(text.encode(), asked.output, asked.force)
     return 0
 
 
@@ -313,26 +340,26 @@ def from_yosys(asked, _library, say):
     from .netlist import write_netlist
     from .yosys import convert
     files.check_free(asked.output, asked.force)
-    converted, names = convert(asked.block, asked.top, asked.delays)
+    drawn = convert(asked.block, asked.top, asked.delays)
     if asked.bytes:
-        say.write_netlist(write_netlist(converted), asked.output, asked.force)
+        say.write_netlist(write_netlist(drawn.netlist), asked.output, asked.force)
     else:
-        say.write(write_text(converted, names).encode(), asked.output, asked.force)
+        say.write(write_text(drawn.netlist, drawn.arrivals, drawn.names).encode(), asked.output, asked.force)
     return 0
 
 
 def completion(_asked, _library, say):
     """The completion for bash."""
-    from .arguments import parser
     from .manual import completion_text
+    from .tree import parser
     say.write(completion_text(parser()).encode(), None, False)
     return 0
 
 
 def man(_asked, _library, say):
     """The man page."""
-    from .arguments import parser
     from .manual import man_text
+    from .tree import parser
     say.write(man_text(parser()).encode(), None, False)
     return 0
 

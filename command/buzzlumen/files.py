@@ -1,10 +1,10 @@
 """Files: read within limits and known by their content, written whole or not at all and never over another unasked."""
 
-import contextlib
 import os
 import stat
 import sys
 
+from .machine import remove
 from .netlist import looks_like_netlist
 from .trouble import OfTheMachine, Slip
 from .words import printable
@@ -151,8 +151,7 @@ def write_beside(path, data, force):
                 os.fchmod(file.fileno(), stat.S_IMODE(os.stat(path).st_mode))
         put_in_place(made, path, force)
     except BaseException:
-        with contextlib.suppress(OSError):
-            os.unlink(made)
+        remove(made)
         raise
 
 

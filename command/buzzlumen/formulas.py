@@ -1,17 +1,15 @@
 """Formulas: DIMACS text read and written, and what each variable means."""
 
 import array
-import re
 from collections import namedtuple
 
 from . import files
 from .trouble import Slip
-from .words import MOST_NUMBER, lines_of, number_in, shown
+from .words import MOST_NUMBER, is_digits, lines_of, number_in, shown
 
 MOST_LITERAL = 2 ** 31 - 1
 MOST_SAID, MOST_SAID_NODES = 8, 40
-NUMBER = re.compile(r"0|-?[1-9][0-9]*")
-MEANING = re.compile(r"c variable ([0-9]+): (.+)")
+MEANING = "c variable "
 
 # A formula out of a file: the variables that its header says, its numbers, the file's line of each clause, and the
 # meaning of variables that its comments give.
@@ -32,7 +30,8 @@ def signed_number(word):
 def numbers_in(words):
     """The numbers that some words say; a word that says none is raised as ValueError."""
     for word in words:
-        if not NUMBER.fullmatch(word):
+        digits = word.removeprefix("-")
+        if not is_digits(digits) or (digits[0] == "0" and word != "0"):
             raise ValueError(word)
     return [signed_number(word) for word in words]
 
@@ -84,10 +83,11 @@ def read_clauses(path, place, line, words, numbers, lines):
 
 def note_meaning(line, meanings):
     """A comment that says what a variable means, as `formula --names` writes it."""
-    found = MEANING.fullmatch(line.strip())
-    number = number_in(found[1], MOST_LITERAL) if found else None
-    if number:
-        meanings[number] = found[2]
+    if line.strip().startswith(MEANING):
+        digits, _, meaning = line.strip().removeprefix(MEANING).partition(": ")
+        number = number_in(digits, MOST_LITERAL)
+        if number and meaning:
+            meanings[number] = meaning
 
 
 # Writing

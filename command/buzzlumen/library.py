@@ -10,16 +10,15 @@ refusal ROOM.
 import array
 import os
 import struct
-import subprocess
 import sys
 from collections import namedtuple
 
-from .machine import folder_for_a_while, on_path
+from .machine import FolderForAWhile, Process, on_path
 from .refusals import ROOM, VECTOR, in_words
 from .trouble import OfTheMachine, Refused
 
-EVALUATE, BUILD, CHECK, JUDGE, SHORTEN, WALK, WRITE_FORMULA = range(1, 8)
-NUMBER, BYTES, WORDS, LENT_BYTES, LENT_WORDS = range(1, 6)
+EVALUATE, BUILD, CHECK, JUDGE, SHORTEN, WALK, WRITE_FORMULA, SHORTEN_FOR, TIMES_OF, FEWER_ONES = range(1, 11)
+NUMBER, BYTES, WORDS, LENT_BYTES, LENT_WORDS, WORK_BYTES, WORK_WORDS = range(1, 8)
 
 MOST_NODES = 512
 MOST_PAIR_NUMBERS = 131072
@@ -107,9 +106,10 @@ def built_in_tree():
 
 def build(program):
     """Build the program beside its place, then put it there in one step."""
+    import subprocess
     try:
         os.makedirs(os.path.dirname(program), exist_ok=True)
-        with folder_for_a_while(os.path.dirname(program)) as folder:
+        with FolderForAWhile(os.path.dirname(program)) as folder:
             made = os.path.join(folder, "host")
             sources = [in_tree(part) for part in SOURCES + (ARCHIVE,) if not part.endswith(".h")]
             command = compiler() + ["-O2", "-I", in_tree("include"), "-o", made, *sources]
@@ -146,6 +146,11 @@ def given_words(values):
     return struct.pack("<IQ", WORDS, len(values)) + little(array.array("i", values)).tobytes()
 
 
+def given_times(values):
+    """An argument: 32-bit numbers without a sign, to read."""
+    return struct.pack("<IQ", WORDS, len(values)) + little(array.array("I", values)).tobytes()
+
+
 def lent_bytes(length):
     """An argument: room for so many bytes."""
     return struct.pack("<IQ", LENT_BYTES, length)
@@ -154,6 +159,16 @@ def lent_bytes(length):
 def lent_words(length):
     """An argument: room for so many 32-bit numbers."""
     return struct.pack("<IQ", LENT_WORDS, length)
+
+
+def work_bytes(length):
+    """An argument: room for so many bytes that nobody reads afterwards."""
+    return struct.pack("<IQ", WORK_BYTES, length)
+
+
+def work_words(length):
+    """An argument: room for so many 32-bit numbers that nobody reads afterwards."""
+    return struct.pack("<IQ", WORK_WORDS, length)
 
 
 def little(numbers):
@@ -167,25 +182,31 @@ class Library:
     """The running program; started at the first call."""
 
     def __init__(self):
-        self.process = None
+        self.process = self.requests = self.answers = None
         # The numbers that the largest formula so far took, and some.
         self.room = FIRST_FORMULA_ROOM
 
     def start(self):
-        """Start the program."""
+        """Start the program, its standard input and output two pipes."""
         command = [*runner(), host_program()]
+        its_input, requests = os.pipe()
+        answers, its_output = os.pipe()
+        self.requests, self.answers = open(requests, "wb"), open(answers, "rb")
+        streams = [(os.POSIX_SPAWN_DUP2, its_input, 0), (os.POSIX_SPAWN_DUP2, its_output, 1),
+                   (os.POSIX_SPAWN_OPEN, 2, os.devnull, os.O_WRONLY, 0)]
         try:
-            # A group of its own: an interrupt at the terminal is the command's to handle.
-            self.process = subprocess.Popen(command, stdin=subprocess.PIPE, stdout=subprocess.PIPE,
-                                            stderr=subprocess.DEVNULL, start_new_session=True)
+            # A session of its own: an interrupt at the terminal is the command's to handle.
+            self.process = Process(command, streams, own_session=True)
         except OSError as error:
             raise OfTheMachine(f"the host {command[-1]} does not start: {error.strerror}") from None
+        finally:
+            os.close(its_input)
+            os.close(its_output)
 
     def close(self):
         """End the program."""
         if self.process:
             self.process.kill()
-            self.process.wait()
             self.process = None
 
     def __enter__(self):
@@ -199,10 +220,10 @@ class Library:
         if self.process is None:
             self.start()
         try:
-            self.process.stdin.write(struct.pack("<II", function, len(arguments)))
+            self.requests.write(struct.pack("<II", function, len(arguments)))
             for argument in arguments:
-                self.process.stdin.write(argument)
-            self.process.stdin.flush()
+                self.requests.write(argument)
+            self.requests.flush()
         except OSError:
             raise self.ended() from None
         count, = struct.unpack("<I", self.read(4))
@@ -211,7 +232,7 @@ class Library:
 
     def read(self, count):
         """So many bytes of an answer."""
-        data = self.process.stdout.read(count)
+        data = self.answers.read(count)
         if len(data) < count:
             raise self.ended()
         return data
@@ -225,8 +246,7 @@ class Library:
 
     def ended(self):
         """What to say where the program broke off."""
-        self.process.kill()
-        status = self.process.wait()
+        status = self.process.kill()
         self.process = None
         causes = {4: "memory is short", 127: "it was not found"}
         return OfTheMachine(f"the host program broke off: {causes.get(status, f'status {status}')}")
@@ -243,60 +263,87 @@ class Library:
 
     # The four functions of the library.
 
-    def evaluate(self, netlist, vector):
+    def evaluate(self, netlist, arrivals, vector):
         """Values and settling times under a vector."""
-        arguments = [given_bytes(netlist), given_bytes(vector), lent_bytes(MOST_NODES), lent_words(MOST_NODES)]
+        arguments = [given_bytes(netlist), given_times(arrivals), given_bytes(vector), lent_bytes(MOST_NODES),
+                     lent_words(MOST_NODES)]
         (refusal, place, time), (values, times) = self.call(EVALUATE, arguments, "BI")
         accept(refusal, place)
         return Settled(time, values, times)
 
-    def refusal_of(self, netlist):
-        """The refusal of bytes that are no netlist, or None: a vector without a value is refused after all of those."""
+    def refusal_of(self, netlist, arrivals):
+        """The refusal of bytes that are no netlist, or of numbers that are no arrivals for it, or None: a vector
+        without a value is refused after all of those."""
         try:
-            self.evaluate(netlist, b"")
+            self.evaluate(netlist, arrivals, b"")
         except Refusal as refusal:
             return refusal if refusal.number != VECTOR else None
         return None
 
-    def build(self, netlist, target):
+    def build(self, netlist, arrivals, target):
         """The formula for a target."""
-        (variables, clauses, numbers, count), (pairs, formula) = self.with_room(lambda room: self.call(
-            BUILD, [given_bytes(netlist), number(target), lent_words(MOST_PAIR_NUMBERS), lent_words(room)], "Ii"))
-        return Built(variables, clauses, formula[:numbers], pairs[:2 * count])
+        (variables, clauses, _, _), (pairs, formula) = self.with_room(lambda room: self.call(
+            BUILD, [given_bytes(netlist), given_times(arrivals), number(target), lent_words(MOST_PAIR_NUMBERS),
+                    lent_words(room)], "Ii"))
+        return Built(variables, clauses, formula, pairs)
 
     def check(self, variables, formula, refutation):
         """Whether a refutation of a formula passes."""
         room = min(variables, MOST_VARIABLES) + 1
-        arguments = [number(variables), given_words(formula), given_words(refutation), lent_bytes(room)]
-        (refusal, place), _ = self.call(CHECK, arguments, "B")
+        arguments = [number(variables), given_words(formula), given_words(refutation), work_bytes(room)]
+        (refusal, place), _ = self.call(CHECK, arguments, "")
         accept(refusal, place)
 
-    def judge(self, netlist, delay, vector, refutation):
+    def judge(self, netlist, arrivals, delay, vector, refutation):
         """Whether a delay, a vector and a refutation are a certificate."""
         self.with_room(lambda room: self.call(
-            JUDGE, [given_bytes(netlist), number(delay), given_bytes(vector), given_words(refutation),
-                    lent_bytes(MOST_NODES), lent_words(MOST_NODES), lent_words(MOST_PAIR_NUMBERS), lent_words(room),
-                    lent_bytes(MOST_VARIABLES + 1)], "BIIiB"))
+            JUDGE, [given_bytes(netlist), given_times(arrivals), number(delay), given_bytes(vector),
+                    given_words(refutation), work_bytes(MOST_NODES), work_words(MOST_NODES),
+                    work_words(MOST_PAIR_NUMBERS), work_words(room), work_bytes(MOST_VARIABLES + 1)], ""))
 
     # What the program has beside the library's functions, for a search.
 
-    def write_formula(self, netlist, target, path):
+    def write_formula(self, netlist, arrivals, target, path):
         """The formula for a target, to a file as DIMACS CNF."""
         (wrong,), _ = self.with_room(lambda room: self.call(
-            WRITE_FORMULA, [given_bytes(netlist), number(target), given_bytes(os.fsencode(path) + b"\0"),
-                            lent_words(MOST_PAIR_NUMBERS), lent_words(room)], "Ii"))
+            WRITE_FORMULA, [given_bytes(netlist), given_times(arrivals), number(target),
+                            given_bytes(os.fsencode(path) + b"\0"), work_words(MOST_PAIR_NUMBERS), work_words(room)],
+            ""))
         if wrong:
             raise OfTheMachine(f"the formula for T={target} cannot be written to {path}: is the disk full?")
 
     def shorten(self, variables, formula, refutation):
         """A refutation without the steps that it does not need; the given one where it does not hold."""
         arguments = [number(variables), given_words(formula), given_words(refutation), lent_words(len(refutation))]
-        (length,), (shorter,) = self.call(SHORTEN, arguments, "i")
-        return shorter[:length] if length else refutation
+        _, (shorter,) = self.call(SHORTEN, arguments, "i")
+        return shorter or refutation
 
-    def walk(self, netlist, inputs, enough=None):
+    def shorten_for(self, netlist, arrivals, target, refutation):
+        """The same for a refutation of a netlist's formula for a target."""
+        _, (shorter,) = self.with_room(lambda room: self.call(
+            SHORTEN_FOR, [given_bytes(netlist), given_times(arrivals), number(target), given_words(refutation),
+                          work_words(MOST_PAIR_NUMBERS), work_words(room), lent_words(len(refutation))], "i"))
+        return shorter or refutation
+
+    def times_of(self, netlist, arrivals, vectors):
+        """The settling times of some vectors."""
+        arguments = [given_bytes(netlist), given_times(arrivals), given_bytes(b"".join(vectors)),
+                     number(len(vectors[0])), lent_words(len(vectors))]
+        (refusal, place), (times,) = self.call(TIMES_OF, arguments, "I")
+        accept(refusal, place)
+        return times
+
+    def fewer_ones(self, netlist, arrivals, time, vector):
+        """A vector that settles at a time, with a 0 for as many of its ones as go one after the other."""
+        arguments = [given_bytes(netlist), given_times(arrivals), number(time), given_bytes(vector),
+                     lent_bytes(len(vector))]
+        _, (smaller,) = self.call(FEWER_ONES, arguments, "B")
+        return bytes(smaller)
+
+    def walk(self, netlist, arrivals, enough=None):
         """Of all vectors in order, 0 before 1, the first that settles latest, or at `enough` or later: time, vector."""
-        arguments = [given_bytes(netlist), number(enough or 0), number(enough is not None), lent_bytes(inputs)]
+        arguments = [given_bytes(netlist), given_times(arrivals), number(enough or 0), number(enough is not None),
+                     lent_bytes(len(arrivals))]
         (refusal, place, time), (vector,) = self.call(WALK, arguments, "B")
         accept(refusal, place)
         return time, bytes(vector)

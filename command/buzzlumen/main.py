@@ -1,9 +1,10 @@
 """The command from its words to its exit status. Whatever happens, a person reads a line and never a traceback."""
 
 import os
-import signal
 import sys
 
+from .machine import signal
+from .plain import read_plain
 from .trouble import OfTheMachine, Slip, Trouble
 from .words import printable
 
@@ -129,16 +130,18 @@ def fail(stream, error):
 
 def run(words, say):
     """Ask what the words ask; the status."""
-    from .arguments import parser
-    tree = parser()
-    if not words:
-        say.write(tree.format_help().encode(), None, False)
-        return 0
-    asked = tree.parse_args(words)
+    asked = read_plain(words)
+    if asked is None:
+        from .tree import parser
+        tree = parser()
+        if not words:
+            say.write(tree.format_help().encode(), None, False)
+            return 0
+        asked = tree.parse_args(words)
+        if asked.command is None:
+            tree.error("a command is needed")
     from .commands import COMMANDS
     from .library import Library
-    if asked.command is None:
-        tree.error("a command is needed")
     with Library() as library:
         return COMMANDS[asked.command](asked, library, say)
 

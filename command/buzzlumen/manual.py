@@ -5,6 +5,16 @@ import argparse
 from . import DATE, __version__
 
 HEAD = ".TH BUZZLUMEN 1 {date} \"buzzlumen {version}\" \"User Commands\"\n"
+CIRCUIT = """input a b:25
+n2 = BUF(a:3)
+n3 = AND(n2:1, b:1)
+n4 = OR(n3:1, b:1)
+output n4"""
+ABOUT_CIRCUITS = """One statement a line; # starts a comment. Inputs come first. Behind an input's name may stand a
+colon and its arrival, 0 to 9999; the others arrive at 0. A pin is the name of an input or of a gate on a line above, a
+colon and the pin's delay, 0 to 999. The kinds are BUF NOT AND NAND OR NOR XOR XNOR MUX; MUX takes its pins as select,
+a, b. A name is any run of printable characters but blanks and ( ) , : = #. A netlist file holds neither names nor
+arrivals: its nodes are called n0, n1 and so on, and its inputs arrive at 0 unless --arrivals says when."""
 FILES = (
     ("target/command/host", "in the tree: the program over the library, built when it is missing"),
     ("/usr/lib/buzzlumen", "installed: the command's parts and that program"),
@@ -85,6 +95,7 @@ def man_text(tree):
         f".SH SYNOPSIS\n.B {escaped('buzzlumen COMMAND ...')}\n",
         f".SH DESCRIPTION\n{escaped(tree.description)}\n",
         ".SH COMMANDS\n" + "".join(command_text(name, parser) for name, parser, _ in subcommands(tree)),
+        f".SH CIRCUITS\nA circuit as text:\n.PP\n.EX\n{escaped(CIRCUIT)}\n.EE\n.PP\n{escaped(ABOUT_CIRCUITS)}\n",
         f".SH EXIT STATUS\n.EX\n{escaped(status)}\n.EE\n",
         ".SH ENVIRONMENT\n" + "".join(term(bold(name), words) for name, words in VARIABLES),
         ".SH FILES\n" + "".join(term(italic(name), words) for name, words in FILES),

@@ -11,7 +11,7 @@ PIN_COUNTS = {"BUF": (1, 1), "NOT": (1, 1), "AND": (2, 8), "NAND": (2, 8), "OR":
               "XOR": (2, 2), "XNOR": (2, 2), "MUX": (3, 3)}
 
 TRAILER = struct.Struct("<IHHHHH")
-MOST_INPUTS, MOST_GATES, MOST_PINS, MOST_OUTPUTS, MOST_DELAY = 64, 448, 2048, 64, 999
+MOST_INPUTS, MOST_GATES, MOST_PINS, MOST_OUTPUTS, MOST_DELAY, MOST_ARRIVAL = 64, 448, 2048, 64, 999, 9999
 VERSION = 1
 
 Pin = namedtuple("Pin", "driver delay")
@@ -39,11 +39,11 @@ def read_netlist(data):
     end = len(data) - TRAILER.size
     back, inputs, gate_count, pin_count, output_count, _ = TRAILER.unpack_from(data, end)
     tables = data[end - back:end]
-    rows = [struct.unpack_from("<BBH", tables, 4 * gate) for gate in range(gate_count)]
-    pins = [Pin(*struct.unpack_from("<HH", tables, 4 * (gate_count + pin))) for pin in range(pin_count)]
-    outputs = struct.unpack_from(f"<{output_count}H", tables, 4 * (gate_count + pin_count))
-    gates = [Gate(KINDS[kind - 1], pins[first:first + count]) for kind, count, first in rows]
-    return Netlist(inputs, gates, list(outputs))
+    pin_table, output_table = 4 * gate_count, 4 * (gate_count + pin_count)
+    pins = list(map(Pin._make, struct.iter_unpack("<HH", tables[pin_table:output_table])))
+    gates = [Gate(KINDS[kind - 1], pins[first:first + count])
+             for kind, count, first in struct.iter_unpack("<BBH", tables[:pin_table])]
+    return Netlist(inputs, gates, list(struct.unpack_from(f"<{output_count}H", tables, output_table)))
 
 
 def looks_like_netlist(data):
@@ -54,15 +54,15 @@ def looks_like_netlist(data):
     return version == VERSION and back == 4 * gates + 4 * pins + 2 * outputs and inputs > 0
 
 
-def tops_of(netlist):
-    """The longest sum of delays to each node, 0 for an input."""
-    tops = [0] * netlist.inputs
+def tops_of(netlist, arrivals):
+    """The longest sum of delays to each node, an input's arrival counted."""
+    tops = list(arrivals)
     for gate in netlist.gates:
         tops.append(max(tops[pin.driver] + pin.delay for pin in gate.pins))
     return tops
 
 
-def longest_path(netlist):
-    """The longest sum of delays to an output."""
-    tops = tops_of(netlist)
+def longest_path(netlist, arrivals):
+    """The longest sum of delays to an output, the arrival at its start counted."""
+    tops = tops_of(netlist, arrivals)
     return max(tops[node] for node in netlist.outputs)

@@ -6,7 +6,7 @@ counts, which gate, which values. Places count from 0.
 
 import struct
 
-from .netlist import KINDS, MOST_DELAY, PIN_COUNTS, TRAILER
+from .netlist import KINDS, MOST_ARRIVAL, MOST_DELAY, PIN_COUNTS, TRAILER
 from .words import count
 
 # Each row: the refusal's name, when it is given, what its place is (nothing where it is always 0).
@@ -26,9 +26,11 @@ TABLE = (
     ("LAST", "an empty clause before the last, or none", "that clause, or the number of clauses"),
     ("STEP", "a clause doesn't follow", "the first such clause, counted from 0"),
     ("WITNESS", "the vector doesn't settle at the claimed delay", "the time it does settle at"),
+    ("ARRIVAL", "not one arrival for each input, or an arrival over 9,999",
+     "the number of inputs, or the arrival's position"),
 )
-(SHORT, VERSION, COUNT, BACK, GATE, PIN, OUTPUT, VECTOR, ROOM, PAIRS, FORMULA, REFUTATION, LAST, STEP,
- WITNESS) = range(1, len(TABLE) + 1)
+(SHORT, VERSION, COUNT, BACK, GATE, PIN, OUTPUT, VECTOR, ROOM, PAIRS, FORMULA, REFUTATION, LAST, STEP, WITNESS,
+ ARRIVAL) = range(1, len(TABLE) + 1)
 
 COUNTED = (("input", 1, 64), ("gate", 0, 448), ("pin", 0, 2048), ("output", 1, 64))
 MOST_PAIRS = 65536
@@ -114,7 +116,14 @@ def output_cause(place, nodes, all_nodes):
     return f"output {place} is node {nodes[place]}, which is not above the one before it, {nodes[place - 1]}"
 
 
-# Refusals of a vector and of a formula
+# Refusals of arrivals, of a vector and of a formula
+
+
+def of_arrivals(place, arrivals, names, inputs):
+    """Why arrivals are refused."""
+    if len(arrivals) != inputs:
+        return named(ARRIVAL, f"{count(len(arrivals), 'arrival')} for {count(inputs, 'input')}")
+    return named(ARRIVAL, f"input {names[place]} arrives at {arrivals[place]}, the latest is {MOST_ARRIVAL}")
 
 
 def of_vector(place, vector, names, inputs):

@@ -1,17 +1,18 @@
 """Finds a certificate: the largest settling time, a vector that reaches it, and a refutation of anything later.
 
-A circuit settles only at sums of delays along its paths, so these are the times in question. The search goes down from
-the longest path by growing steps, because the formulas near it are small, until some vector is as late; then by halves.
-A target whose formula holds more pairs than the library takes is asked output by output, each with the gates that it
-rests on. Without a solver, a circuit of at most 12 inputs is tried vector by vector, and the refutation fixes the
-inputs one after the other. Nothing here is trusted: what is found counts once the library has judged it.
+A circuit settles only at sums of an arrival and the delays along a path, so these are the times in question. The
+search goes down from the longest path by growing steps, because the formulas near it are small, until some vector is as
+late; then by halves. A target whose formula holds more pairs than the library takes is asked output by output, each
+with the gates that it rests on. Without a solver, a circuit of at most 12 inputs is tried vector by vector, and the
+refutation fixes the inputs one after the other. Nothing here is trusted: what is found counts once the library has
+judged it.
 """
 
 import array
 from collections import namedtuple
 
 from .library import Refusal
-from .machine import folder_for_a_while
+from .machine import FolderForAWhile
 from .netlist import Gate, Netlist, Pin, longest_path, tops_of, write_netlist
 from .refusals import MOST_PAIRS, PAIRS, of_pairs
 from .solvers import Solver, read_steps
@@ -29,9 +30,10 @@ Found = namedtuple("Found", "delay vector refutation by steps")
 # Times and pairs, as sets of bits
 
 
-def possible_times(netlist):
-    """The times at which the circuit can settle at all, rising: the sums of delays along paths to an output."""
-    sums = [1] * netlist.inputs
+def possible_times(netlist, arrivals):
+    """The times at which the circuit can settle at all, rising: the sums of an arrival and the delays along a path from
+    there to an output."""
+    sums = [1 << arrival for arrival in arrivals]
     for gate in netlist.gates:
         own = 0
         for pin in gate.pins:
@@ -80,30 +82,34 @@ class Search:
 
     def __init__(self, circuit, library, solver, progress):
         self.circuit, self.netlist, self.library = circuit, circuit.netlist, library
+        self.arrivals = circuit.arrivals
         self.solver, self.progress = solver, progress
-        self.times = possible_times(self.netlist)
+        self.times = possible_times(self.netlist, self.arrivals)
         self.place_of = {time: place for place, time in enumerate(self.times)}
-        self.tops = tops_of(self.netlist)
+        self.tops = tops_of(self.netlist, self.arrivals)
         self.known_parts, self.known_cones = {}, []
         self.low, self.high, self.vector = -1, len(self.times), None
         # The file of the refutation at times[high]; None where it was refuted output by output.
         self.refuted = None
 
-    def reach(self, vector):
-        """A vector settles at some time: take it where it is the latest so far; gives whether it is."""
-        place = self.place_of[self.library.evaluate(self.circuit.data, vector).time]
+    def reach(self, *vectors):
+        """Vectors settle at some times: take the latest of them where it is later than all before; gives whether it
+        is."""
+        times = self.library.times_of(self.circuit.data, self.arrivals, vectors)
+        place = self.place_of[max(times)]
         if place > self.low:
-            self.low, self.vector = place, vector
+            self.low, self.vector = place, vectors[times.index(max(times))]
             return True
         return False
 
     def first_looks(self):
         """Some vectors, without a solver."""
         state, inputs = 1, self.netlist.inputs
-        self.reach(bytes(inputs))
+        vectors = [bytes(inputs)]
         for _ in range(FIRST_LOOKS):
             state = state * 6364136223846793005 + 1442695040888963407 & 2 ** 64 - 1
-            self.reach(bytes((state * 0x9E3779B97F4A7C15 >> bit & 1) for bit in range(inputs)))
+            vectors.append(bytes((state * 0x9E3779B97F4A7C15 >> bit & 1) for bit in range(inputs)))
+        self.reach(*vectors)
 
     def target(self, place):
         """The least target that asks for times[place] or later and for nothing before."""
@@ -118,12 +124,17 @@ class Search:
 
     def find_parts(self, target):
         """The same for a target, by counting pairs."""
-        if sum(self.tops) <= MOST_PAIRS or count_pairs(self.netlist, self.tops, target) <= MOST_PAIRS:
+        gate_tops = self.tops[self.netlist.inputs:]
+        if sum(gate_tops) <= MOST_PAIRS or count_pairs(self.netlist, self.tops, target) <= MOST_PAIRS:
             return [self.netlist]
-        cones = [each for each in self.cones() if longest_path(each) >= target]
-        if all(count_pairs(each, tops_of(each), target) <= MOST_PAIRS for each in cones):
+        cones = [each for each in self.cones() if longest_path(each, self.arrivals) >= target]
+        if all(self.pairs_of(each, target) <= MOST_PAIRS for each in cones):
             return cones
         return None
+
+    def pairs_of(self, netlist, target):
+        """How many pairs the formula of one output's netlist has."""
+        return count_pairs(netlist, tops_of(netlist, self.arrivals), target)
 
     def cones(self):
         """The netlist of each output, that of the longest path first: it has the most pairs."""
@@ -167,7 +178,7 @@ class Search:
 
     def answer(self, data, target):
         """The solver's answer to a netlist's formula."""
-        self.library.write_formula(data, target, self.solver.path("formula"))
+        self.library.write_formula(data, self.arrivals, target, self.solver.path("formula"))
         return self.solver.ask(self.netlist.inputs)
 
     def run(self):
@@ -186,8 +197,7 @@ class Search:
         """Whether an output whose own formula the library takes is late at a place, others left aside."""
         target = self.target(place)
         for netlist in self.cones():
-            tops = tops_of(netlist)
-            if max(tops) >= target and count_pairs(netlist, tops, target) <= MOST_PAIRS:
+            if longest_path(netlist, self.arrivals) >= target and self.pairs_of(netlist, target) <= MOST_PAIRS:
                 answer = self.answer(write_netlist(netlist), target)
                 if answer.has_model and self.reach(answer.vector):
                     return True
@@ -216,17 +226,13 @@ def smaller(library, circuit, delay, vector):
     """A vector that settles at the delay too, with a 0 for as many of its 1 as go one after the other; of few inputs
     the first one in order."""
     if circuit.netlist.inputs <= MOST_ORDERED_INPUTS:
-        return library.walk(circuit.data, circuit.netlist.inputs, delay)[1]
-    for place in range(len(vector)):
-        other = vector[:place] + b"\0" + vector[place + 1:]
-        if other != vector and library.evaluate(circuit.data, other).time == delay:
-            vector = other
-    return vector
+        return library.walk(circuit.data, circuit.arrivals, delay)[1]
+    return library.fewer_ones(circuit.data, circuit.arrivals, delay, vector)
 
 
 def by_solver(circuit, library, name, progress, limit=None):
     """A certificate, by a solver."""
-    with folder_for_a_while() as folder:
+    with FolderForAWhile() as folder:
         search = Search(circuit, library, Solver(name, folder, progress, limit), progress)
         search.run()
         delay, steps = search.times[search.low], search.refutation()
@@ -240,8 +246,7 @@ def shortened(library, circuit, delay, steps):
     """A refutation of the formula for the delay + 1 without the steps that it does not need."""
     if len(steps) == 1:
         return steps
-    built = library.build(circuit.data, delay + 1)
-    return library.shorten(built.variables, built.formula, steps)
+    return library.shorten_for(circuit.data, circuit.arrivals, delay + 1, steps)
 
 
 # By trying
@@ -249,13 +254,13 @@ def shortened(library, circuit, delay, steps):
 
 def by_trying(circuit, library):
     """A certificate, by trying every vector."""
-    inputs = circuit.netlist.inputs
-    delay, vector = library.walk(circuit.data, inputs)
-    steps = array.array("i", tree(inputs, []))
+    delay, vector = library.walk(circuit.data, circuit.arrivals)
+    steps = array.array("i", tree(circuit.netlist.inputs, []))
     try:
         refutation = shortened(library, circuit, delay, steps)
     except Refusal as refusal:
-        refusal.words = of_pairs(delay + 1, count_pairs(circuit.netlist, tops_of(circuit.netlist), delay + 1))
+        tops = tops_of(circuit.netlist, circuit.arrivals)
+        refusal.words = of_pairs(delay + 1, count_pairs(circuit.netlist, tops, delay + 1))
         raise
     return Found(delay, vector, refutation, "trying every vector", steps.count(0))
 

@@ -4,17 +4,13 @@ Nothing that a solver says is trusted: a model's vector is settled by the librar
 """
 
 import array
-import contextlib
 import os
-import select
-import subprocess
 import time
 from collections import namedtuple
 
-from .machine import on_path, uninterrupted
-from .refutations import read_lines
+from .machine import Process, Uninterrupted, on_path, remove
 from .trouble import OfTheMachine, Slip
-from .words import count, shown
+from .words import MOST_NUMBER, count, number_in, shown
 
 HAS_MODEL, HAS_NONE = 10, 20
 # The arguments of each solver; the formula's file and the refutation's stand in them.
@@ -40,21 +36,6 @@ def find_solver(name=None):
     return None
 
 
-def ended(process):
-    """Whether a program has ended, after a moment's waiting at most."""
-    try:
-        handle = os.pidfd_open(process.pid)
-    except (AttributeError, OSError):
-        # A kernel without such handles: look now and then.
-        with contextlib.suppress(subprocess.TimeoutExpired):
-            process.wait(POLL_SECONDS)
-        return process.returncode is not None
-    try:
-        return bool(select.select([handle], [], [], POLL_SECONDS)[0])
-    finally:
-        os.close(handle)
-
-
 class Solver:
     """One solver, its files in a folder of its own, and the seconds that it took."""
 
@@ -72,34 +53,38 @@ class Solver:
         refutation = self.path(f"refutation_{self.calls}")
         try:
             status = self.run(refutation)
+            if status == HAS_MODEL:
+                return Answer(True, self.read_model(inputs), None)
+            if status == HAS_NONE:
+                return Answer(False, None, refutation)
+            raise OfTheMachine(f"{self.name} ended with status {status} and no answer; it said: {self.last_line()}")
         except OSError as error:
             raise OfTheMachine(f"{self.name} cannot be asked: {error.strerror or error}") from None
-        if status == HAS_MODEL:
-            return Answer(True, self.read_model(inputs), None)
-        if status == HAS_NONE:
-            return Answer(False, None, refutation)
-        raise OfTheMachine(f"{self.name} ended with status {status} and no answer; it said: {self.last_line()}")
+        finally:
+            # The next question's files are new ones: to write over the old ones would take longer.
+            remove(self.path("formula"))
+            remove(self.path("said"))
 
     def run(self, refutation):
         """Run the solver; its status."""
         names = {"formula": self.path("formula"), "refutation": refutation}
         command = [self.name] + [argument.format(**names) for argument in SOLVERS[self.name]]
+        streams = [(os.POSIX_SPAWN_OPEN, 0, os.devnull, os.O_RDONLY, 0),
+                   (os.POSIX_SPAWN_OPEN, 1, self.path("said"), os.O_WRONLY | os.O_CREAT | os.O_TRUNC, 0o600),
+                   (os.POSIX_SPAWN_DUP2, 1, 2)]
         began, process = time.monotonic(), None
-        with open(self.path("said"), "wb") as said:
-            try:
-                with uninterrupted():
-                    process = subprocess.Popen(command, stdin=subprocess.DEVNULL, stdout=said,
-                                               stderr=subprocess.STDOUT)
-                return self.wait(process, began)
-            finally:
-                if process is not None and process.returncode is None:
-                    process.kill()
-                    process.wait()
-                self.seconds += time.monotonic() - began
+        try:
+            with Uninterrupted():
+                process = Process(command, streams)
+            return self.wait(process, began)
+        finally:
+            if process is not None:
+                process.kill()
+            self.seconds += time.monotonic() - began
 
     def wait(self, process, began):
         """Wait for the solver, showing that it goes on."""
-        while not ended(process):
+        while not process.ended_within(POLL_SECONDS):
             self.progress.show(f"{self.name} at work for {time.monotonic() - began:.0f} s")
             if self.limit is not None and time.monotonic() - began > self.limit:
                 raise OfTheMachine(f"{self.name} found no answer within {count(self.limit, 'second')}")
@@ -108,12 +93,13 @@ class Solver:
     def read_model(self, inputs):
         """The inputs' values in the model that the solver printed."""
         true = set()
-        with open(self.path("said"), encoding="ascii", errors="replace") as said:
+        with open(self.path("said"), encoding="utf-8", errors="replace") as said:
             for line in said:
                 if line.startswith("v"):
                     words = line[1:].split()
                     true.update(words)
-                    if words and words[-1].lstrip("-").isdigit() and abs(int(words[-1])) > inputs:
+                    last = number_in(words[-1].lstrip("-"), MOST_NUMBER) if words else None
+                    if last is not None and last > inputs:
                         break
         return bytes(1 if str(variable) in true else 0 for variable in range(1, inputs + 1))
 
@@ -126,6 +112,7 @@ class Solver:
 
 def read_slowly(path, lines, name):
     """The same for a text that is not quite so, or the line that does not read."""
+    from .refutations import read_lines
     try:
         return read_lines(path, lines).numbers
     except Slip as slip:
@@ -135,17 +122,16 @@ def read_slowly(path, lines, name):
 def read_steps(path, name):
     """The refutation that a solver wrote, ended by the empty clause."""
     try:
-        with open(path, encoding="ascii", errors="replace") as file:
+        with open(path, "rb") as file:
             text = file.read()
     except OSError:
-        text = ""
-    lines = text.split("\n")
+        text = b""
     try:
         # As solvers write it: one clause a line, and nothing but deletions and comments between.
-        rows = [line for line in lines if line and line[0] not in "dc%"]
-        numbers = array.array("i", map(int, " ".join(rows).split())) or array.array("i", [0])
+        rows = [line for line in text.split(b"\n") if line and line[0] not in b"dc%"]
+        numbers = array.array("i", map(int, b" ".join(rows).split())) or array.array("i", [0])
     except (ValueError, OverflowError):
-        numbers = read_slowly(path, lines, name)
+        numbers = read_slowly(path, text.decode("utf-8", "replace").split("\n"), name)
     if numbers[-1] != 0 or (len(numbers) > 1 and numbers[-2] != 0):
         numbers.append(0)
     return numbers

@@ -1,21 +1,18 @@
 """Vectors as people write them, 0,1 or 01 or a=0 b=1, and as they are shown."""
 
-import re
-
 from .trouble import Slip
-from .words import number_in, shown
+from .words import is_digits, is_name, number_in, shown
 
 MOST_BYTE = 255
-PART = re.compile(r"([^\s(),:=#]+)=([0-9]+)")
 
 
 def read_vector(words, circuit):
     """The values of a vector, one for each input in order; how many there are and whether each is 0 or 1 is the
     library's to say."""
-    parts = [part for word in words for part in re.split(r"[,\s]+", word) if part]
+    parts = [part for word in words for part in word.replace(",", " ").split()]
     if any("=" in part for part in parts):
         return by_name(parts, circuit)
-    if len(parts) == 1 and re.fullmatch(r"[0-9]+", parts[0]):
+    if len(parts) == 1 and is_digits(parts[0]):
         parts = list(parts[0])
     values = [number_in(part, MOST_BYTE) for part in parts]
     if not values or None in values:
@@ -23,20 +20,31 @@ def read_vector(words, circuit):
     return bytes(values)
 
 
+def named_value(part, most):
+    """The name and the value that a part as a=0 says; the value is None where it says none or one over the most."""
+    name, _, digits = part.partition("=")
+    return name, number_in(digits, most) if is_name(name) else None
+
+
+def named_values(parts, circuit, most, what, example):
+    """The number of each input that some parts name: its value, or what else they say of it."""
+    inputs, number_of = circuit.names[:circuit.netlist.inputs], {}
+    for part in parts:
+        name, number = named_value(part, most)
+        if number is None:
+            raise Slip(f"{shown(part)} is no input and its {what}, as {example}")
+        if name not in inputs:
+            raise Slip(f"{shown(name)} is no input; the inputs are {' '.join(inputs)}")
+        if name in number_of:
+            raise Slip(f"{name} has its {what} twice")
+        number_of[name] = number
+    return number_of
+
+
 def by_name(parts, circuit):
     """The values of a vector that names the inputs, in the inputs' order."""
-    value_of = {}
+    value_of = named_values(parts, circuit, MOST_BYTE, "value", "a=0")
     inputs = circuit.names[:circuit.netlist.inputs]
-    for part in parts:
-        found = PART.fullmatch(part)
-        value = number_in(found[2], MOST_BYTE) if found else None
-        if value is None:
-            raise Slip(f"{shown(part)} is no input and its value, as a=0")
-        if found[1] not in inputs:
-            raise Slip(f"{shown(found[1])} is no input; the inputs are {' '.join(inputs)}")
-        if found[1] in value_of:
-            raise Slip(f"{found[1]} has a value twice")
-        value_of[found[1]] = value
     missing = [name for name in inputs if name not in value_of]
     if missing:
         raise Slip(f"no value for {' '.join(missing)}")

@@ -1,17 +1,15 @@
 """Words that a person wrote, shown back to them, and numbers among them."""
 
-import re
-
 from .trouble import Slip
 
 MOST_SHOWN = 60
-DIGITS = re.compile(r"[0-9]+")
 MOST_NUMBER = 2 ** 32 - 1
+KEPT_FOR_THE_FORMAT = frozenset("(),:=#")
 
 
 def lines_of(text):
     """The lines of a text, whatever ends them: as an editor counts them."""
-    lines = re.split(r"\r\n|\r|\n", text)
+    lines = text.replace("\r\n", "\n").replace("\r", "\n").split("\n")
     return lines if lines[-1] else lines[:-1]
 
 
@@ -32,9 +30,19 @@ def count(number, what):
     return f"{number:,} {what}" if number == 1 else f"{number:,} {what}s"
 
 
+def is_digits(word):
+    """Whether a word is digits from 0 to 9 and nothing else."""
+    return word.isascii() and word.isdigit()
+
+
+def is_name(word):
+    """Whether a word can name a node: no blank in it and no sign that the text of a circuit needs."""
+    return word != "" and KEPT_FOR_THE_FORMAT.isdisjoint(word) and word.split() == [word]
+
+
 def number_in(word, most):
     """The number that a word of digits says, or None where it says none or one over the most."""
-    if not DIGITS.fullmatch(word):
+    if not is_digits(word):
         return None
     digits = word.lstrip("0") or "0"
     if len(digits) > len(str(most)) or int(digits) > most:

@@ -276,7 +276,7 @@ class Conversion:
                 raise Mistake(f"nothing drives an output ({self.names[bit]})")
 
     def whole(self):
-        """The netlist and its names."""
+        """What is drawn; every input arrives at 0."""
         if bits_of(self.module["ports"], "inout"):
             raise Mistake("a port is both input and output")
         self.add_constants()
@@ -297,7 +297,7 @@ def on_loop(cells):
 
 
 def convert(path, top=None, delays_path=None):
-    """The netlist and the names of a block's circuit."""
+    """A block's circuit, as it is drawn."""
     delays, module = read_delays(delays_path), read_module(path, top)
     try:
         return Conversion(module, delays).whole()

@@ -58,6 +58,15 @@ class Asking(unittest.TestCase):
         program.chmod(0o755)
         return folder
 
+    def without_solver(self):
+        """A folder for the PATH that has qemu at most."""
+        folder = self.folder / "path"
+        folder.mkdir(exist_ok=True)
+        for place in ("/usr/bin/qemu-x86_64", "/bin/qemu-x86_64"):
+            if pathlib.Path(place).exists() and not (folder / "qemu-x86_64").exists():
+                (folder / "qemu-x86_64").symlink_to(place)
+        return folder
+
     def environment(self, **variables):
         """The environment with some variables changed."""
         return {**os.environ, **{name: str(value) for name, value in variables.items()}}

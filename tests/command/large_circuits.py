@@ -2,7 +2,8 @@
 """The largest circuits that the command must answer for, and how long it takes beside the solver alone.
 
     tests/command/large_circuits.py                 asks for each circuit's delay and prints a table
-    tests/command/large_circuits.py --out FOLDER    writes their netlist files
+    tests/command/large_circuits.py --runs 21       asks so often; the run in the middle, by its whole time, is shown
+    tests/command/large_circuits.py --out FOLDER    writes their netlist files to a folder that is there
 
 Each maker gives a netlist of tests/document.py; a seed fixes every random choice on every machine.
 """
@@ -148,6 +149,7 @@ def main():
     """The command."""
     parser = argparse.ArgumentParser(description=__doc__, formatter_class=argparse.RawDescriptionHelpFormatter)
     parser.add_argument("--out", help="a folder for the netlist files")
+    parser.add_argument("--runs", type=int, default=1, help="how often each is asked for")
     asked = parser.parse_args()
     if not asked.out:
         print("| Circuit | True delay | Questions | Steps | Kept | Solver, s | Whole, s | Ratio |\n" + "|---" * 8 + "|")
@@ -156,11 +158,12 @@ def main():
             path = pathlib.Path(asked.out or folder) / (name.replace(" ", "_").replace(",", "") + ".netlist")
             path.write_bytes(write_netlist(make()))
             if not asked.out:
-                answer, own, questions, whole = measure(path)
+                runs = sorted((measure(path) for _ in range(asked.runs)), key=lambda run: run[-1])
+                answer, own, questions, whole = runs[len(runs) // 2]
                 top = re.search(r"adds up to (\d+)", answer.err)[1]
                 had, kept = re.search(r"had ([\d,]+) steps?; it needs, and keeps, ([\d,]+)", answer.err).groups()
                 delay, ratio = answer.out.decode().split()[1], f"{whole / own:.1f}" if own else ""
-                print(f"| {name} | {delay} of {top} | {questions} | {had} | {kept} | {own:.2f} | {whole:.2f} | "
+                print(f"| {name} | {delay} of {top} | {questions} | {had} | {kept} | {own:.3f} | {whole:.3f} | "
                       f"{ratio} |", flush=True)
 
 

@@ -20,7 +20,26 @@ MISTAKES = (
     ("input a\nb = BUF(a:x)\n", "line 2: `a:x` is no pin; a pin is a name, a colon and a delay, as b:1"),
     ("input a\nb = BUF(a:3/5)\n",
      "line 2: `a:3/5`: a delay for rising and one for falling are not read yet; write one"),
-    ("input a b:25\n", "line 1: `b:25`: an input's arrival time is not read yet; every input arrives at 0"),
+    ("input a b:\n",
+     "line 1: `b:`: an arrival is a number from 0 to 9999 right behind the colon, as b:25"),
+    ("input a\ninput b:-3\n",
+     "line 2: `b:-3`: an arrival is a number from 0 to 9999 right behind the colon, as b:25"),
+    ("input a b: 25\n", "line 1: `b:`: an arrival is a number from 0 to 9999 right behind the colon, as b:25"),
+    ("input a:soon b\n",
+     "line 1: `a:soon`: an arrival is a number from 0 to 9999 right behind the colon, as b:25"),
+    ("input a:2.5 b\n", "line 1: `a:2.5`: an arrival is a number from 0 to 9999 right behind the colon, as b:25"),
+    ("input a:3,b:25\n", "line 1: `a:3,b:25`: a name holds no colon, one arrival stands behind it, as b:25, and "
+     "blanks part the inputs"),
+    ("input a b:c:25\n", "line 1: `b:c:25`: a name holds no colon, one arrival stands behind it, as b:25, and blanks "
+     "part the inputs"),
+    ("input a b=25\n", "line 1: `b=25`: in a circuit's text an arrival stands behind a colon, as b:25"),
+    ("input a :25\n", "line 1: `:25` is no name: blanks and ( ) , : = # are kept for the format"),
+    ("input a b=c\n", "line 1: `b=c` is no name: blanks and ( ) , : = # are kept for the format"),
+    ("input a:3 a:5\n", "line 1: a is named twice"),
+    ("input a:" + "9" * 5000 + "\n", "line 1: `a:" + "9" * 58 + "...`: an arrival is a number from 0 to 9999 right "
+     "behind the colon, as b:25"),
+    ("input a b:25\nc = BUF(b:25:3)\n", "line 2: `b:25:3` is no pin; a pin is a name, a colon and a delay, as b:1"),
+    ("input a b:25\noutput b:25\n", "line 2: b:25 is no input and no gate of a line above"),
     ("input a\nb = BUF(b:1)\n", "line 2: b is no input and no gate of a line above"),
     ("input a\n\nb = AND(a:1)\n", "line 3: AND takes 2 to 8 pins and has 1"),
     ("input a\nb = XOR(a:1, a:1, a:1)\n", "line 2: XOR takes 2 pins and has 3"),
@@ -49,7 +68,7 @@ VECTORS = (
     (["0,0,0"], 1, "VECTOR: 3 values for 2 inputs.\n"),
     (["0,7"], 1, "VECTOR: b has the value 7, and a value is 0 or 1.\n"),
     (["a=0"], 2, "buzzlumen: no value for b\n"),
-    (["a=0", "a=1"], 2, "buzzlumen: a has a value twice\n"),
+    (["a=0", "a=1"], 2, "buzzlumen: a has its value twice\n"),
     (["a=0", "c=1"], 2, "buzzlumen: `c` is no input; the inputs are a b\n"),
     (["a=0", "b=x"], 2, "buzzlumen: `b=x` is no input and its value, as a=0\n"),
     (["x"], 2, "buzzlumen: a vector is one value for each input, as 0,1 or 01 or a=0 b=1, not `x`\n"),
@@ -81,14 +100,15 @@ class Circuits(Asking):
     """The text format and netlist files."""
 
     def test_text_and_bytes(self):
-        """Circuit A's bytes; every circuit's text draws the same circuit."""
+        """Circuit A's bytes; every circuit's text draws the same circuit, its arrivals included."""
         made = self.folder / "a.netlist"
         self.ask("netlist", COURSE / "circuit_a.txt", "-o", made)
         self.assertEqual(made.read_bytes(), CIRCUIT_A)
         for seed in range(100):
             drawn = netlist.read_netlist(write_netlist(methods.random_netlist(methods.Dice(seed))))
-            names = circuit.plain_names(drawn)
-            self.assertEqual(circuit.read_text(circuit.write_text(drawn, names)), (drawn, names))
+            names, arrivals = circuit.plain_names(drawn), methods.random_arrivals(methods.Dice(seed, 4), drawn.inputs)
+            again = circuit.read_text(circuit.write_text(drawn, arrivals, names))
+            self.assertEqual(again, (drawn, arrivals, [1] * drawn.inputs, names))
             self.assertEqual(write_netlist(methods.random_netlist(methods.Dice(seed))), netlist.write_netlist(drawn))
 
     def test_back_to_text(self):
@@ -112,7 +132,7 @@ class Circuits(Asking):
             path = self.file("a.netlist", damage(CIRCUIT_A))
             answer = self.ask("times", path, "01", status=1)
             self.assertEqual(answer.err, f"{path}: {wanted}\n")
-            refused = document.evaluate(damage(CIRCUIT_A), [0, 1], 512, 512)[0]
+            refused = document.evaluate(damage(CIRCUIT_A), [0, 0], [0, 1], 512, 512)[0]
             self.assertEqual(answer.out, f"refused {refused.number} {refused.place}\n")
 
     def test_table(self):

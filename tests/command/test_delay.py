@@ -1,6 +1,5 @@
 """The search: delays as brute force finds them, by each solver and without one, and the largest circuits."""
 
-import pathlib
 import unittest
 
 import large_circuits
@@ -35,15 +34,6 @@ class Delays(Asking):
         without = self.environment(PATH=self.without_solver())
         for words, options in (((), {}), (("--solver", "picosat"), {}), ((), {"env": without})):
             self.assertEqual(self.ask("delay", *paths, *words, **options).out, wanted)
-
-    def without_solver(self):
-        """A folder for the PATH that has qemu at most."""
-        folder = self.folder / "path"
-        folder.mkdir(exist_ok=True)
-        for place in ("/usr/bin/qemu-x86_64", "/bin/qemu-x86_64"):
-            if pathlib.Path(place).exists() and not (folder / "qemu-x86_64").exists():
-                (folder / "qemu-x86_64").symlink_to(place)
-        return folder
 
     def test_first_vector(self):
         """Of few inputs the vector is the first in order that reaches the delay."""
@@ -123,25 +113,30 @@ class Parts(unittest.TestCase):
     """What the search rests on."""
 
     def test_pairs(self):
-        """Pairs are counted as the rules count them; an output's own netlist settles as the whole does."""
+        """Pairs are counted as the rules count them, late inputs or none."""
         for seed in range(40):
             circuit = methods.random_netlist(methods.Dice(seed, 5), 5, 14)
             own = netlist.read_netlist(write_netlist(circuit))
-            tops = netlist.tops_of(own)
-            for target in range(1, max(tops) + 2, 1 + max(tops) // 7):
-                self.assertEqual(search.count_pairs(own, tops, target), len(pairs_of(circuit, target, 10 ** 6)))
+            for arrivals in (methods.in_time(own), methods.random_arrivals(methods.Dice(seed, 8), own.inputs)):
+                tops = netlist.tops_of(own, arrivals)
+                for target in range(1, max(tops) + 2, 1 + max(tops) // 7):
+                    self.assertEqual(search.count_pairs(own, tops, target),
+                                     len(pairs_of(circuit, arrivals, target, 10 ** 6)))
 
     def test_cones_and_times(self):
-        """Over all vectors: each output's own netlist gives the output's times, and every time is a possible one."""
+        """Over all vectors: each output's own netlist gives the output's times, and every time is a possible one; the
+        longest path is the last of these."""
         with Library() as library:
-            for seed in range(8):
+            for seed in range(12):
                 own = netlist.read_netlist(write_netlist(methods.random_netlist(methods.Dice(seed, 6), 4, 14)))
+                arrivals = methods.random_arrivals(methods.Dice(seed, 9), own.inputs)
                 cones = [netlist.write_netlist(search.cone(own, node)) for node in own.outputs]
-                possible = search.possible_times(own)
+                possible = search.possible_times(own, arrivals)
+                self.assertEqual(possible[-1], netlist.longest_path(own, arrivals))
                 for vector in methods.all_vectors(own.inputs):
-                    whole = library.evaluate(netlist.write_netlist(own), bytes(vector))
+                    whole = library.evaluate(netlist.write_netlist(own), arrivals, bytes(vector))
                     self.assertIn(whole.time, possible)
-                    times = [library.evaluate(each, bytes(vector)).time for each in cones]
+                    times = [library.evaluate(each, arrivals, bytes(vector)).time for each in cones]
                     self.assertEqual(times, [whole.times[node] for node in own.outputs])
 
     def test_shortened(self):

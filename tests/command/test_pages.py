@@ -60,7 +60,8 @@ class Pages(Asking):
         for line, wanted in (("buzzlumen ti", ["times"]), ("buzzlumen delay --so", ["--solver"]),
                              ("buzzlumen delay --solver c", ["cadical"]),
                              (f"buzzlumen times {COURSE}/circuit_a", [f"{COURSE}/circuit_a.txt"]),
-                             ("buzzlumen judge --", ["--delay", "--vector", "--refutation", "--help"])):
+                             ("buzzlumen judge --", ["--delay", "--vector", "--refutation", "--arrivals",
+                                                      "--help"])):
             words = line.split(" ")
             program = (f"source {script}; COMP_WORDS=({' '.join(words)}); COMP_CWORD={len(words) - 1}; _buzzlumen; "
                        "printf '%s\\n' \"${COMPREPLY[@]}\"")

@@ -7,9 +7,11 @@ import signal
 import subprocess
 import time
 import unittest
+from unittest import mock
 
 import large_circuits
 from asking import COMMAND, COURSE, ROOT, Asking
+from buzzlumen.machine import Process
 from document import write_netlist
 
 A = COURSE / "circuit_a.txt"
@@ -55,6 +57,16 @@ class Trouble(Asking):
         self.assertIn("cadical found no answer within 1 second", answer.err)
         for word in ("0", "x", LONG):
             self.ask("delay", A, "--seconds", word, status=2)
+
+    def test_kernel_without_handles(self):
+        """Where the kernel gives no handle for a program, its end and its status are seen all the same."""
+        with mock.patch("os.pidfd_open", side_effect=OSError, create=True):
+            for status in (0, 7, -9):
+                script = f"exit {status}" if status >= 0 else "kill -9 $$"
+                process = Process(["sh", "-c", "sleep 0.05; " + script], [])
+                while not process.ended_within(1):
+                    self.assertIsNone(process.status)
+                self.assertEqual((process.wait(), process.kill()), (status, status))
 
     def test_interrupt(self):
         """An interrupt, or a request to end, leaves a line and no file behind, and ends the solver."""

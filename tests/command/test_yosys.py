@@ -46,8 +46,9 @@ def module_of(cells, inputs=(2, 3, 4), outputs=(9,)):
 
 def converted(cells, delays=None, **ports):
     """The netlist of such a module, in tests/document.py's own terms, and its text."""
-    drawn, names = yosys.Conversion(module_of(cells, **ports), delays or {}).whole()
-    return read_netlist(netlist.write_netlist(drawn)), circuit.write_text(drawn, names)
+    drawn = yosys.Conversion(module_of(cells, **ports), delays or {}).whole()
+    text = circuit.write_text(drawn.netlist, drawn.arrivals, drawn.names)
+    return read_netlist(netlist.write_netlist(drawn.netlist)), text
 
 
 class Conversion(Asking):
@@ -58,7 +59,7 @@ class Conversion(Asking):
         for kind, value in CELL_VALUES.items():
             drawn, _ = converted([(kind, {"A": 2, "B": 3, "S": 4}, 9)])
             for a, b, s in itertools.product((0, 1), repeat=3):
-                values, times = settle(drawn, (a, b, s))
+                values, times = settle(drawn, methods.in_time(drawn), (a, b, s))
                 node = drawn.outputs[0]
                 self.assertEqual((values[node], times[node]), (value(a, b, s), 1), kind)
         drawn, _ = converted([("$_MUX_", {"A": 2, "B": 3, "S": 4}, 9)], {("$_MUX_",): 5, ("$_MUX_", "S"): 9})
@@ -71,7 +72,7 @@ class Conversion(Asking):
                          "input i2\nn7 = NOT(i2:1)\nn8 = NOT(n7:1)\no0 = NOT(n8:1)\noutput i2 o0\n")
         constant, _ = converted([("$_AND_", {"A": 2, "B": "1"}, 9)], outputs=(9, "0"))
         for vector in itertools.product((0, 1), repeat=3):
-            values, times = settle(constant, vector)
+            values, times = settle(constant, methods.in_time(constant), vector)
             zero, result = constant.outputs
             self.assertEqual((values[zero], times[zero], values[result], times[result]), (0, 0, vector[0], 1))
 
@@ -136,7 +137,7 @@ class Conversion(Asking):
         for vector in methods.all_vectors(9):
             number, last = (sum(bit << place for place, bit in enumerate(bits)) for bits in (vector[:4], vector[4:8]))
             wanted = 1 if number < last or (number == last and vector[8]) else 0
-            self.assertEqual(settle(drawn, vector)[0][drawn.outputs[0]], wanted)
+            self.assertEqual(settle(drawn, methods.in_time(drawn), vector)[0][drawn.outputs[0]], wanted)
 
     def test_yosys_itself(self):
         """Sequential Verilog by the line that the message names, and a parameterised buffer8, where yosys is here."""

@@ -36,7 +36,8 @@ pub small : (file arrivals : List ℕ) (target pairsRoom formulaRoom : ℕ) →
     Small (building file arrivals target pairsRoom formulaRoom .answer)
 small file arrivals target pairsRoom formulaRoom = go (openCircuitOf file arrivals) refl
   where
-    go : (o : Opened) → openCircuitOf file arrivals ≡ o → Small (building file arrivals target pairsRoom formulaRoom .answer)
+    go : (o : Opened) → openCircuitOf file arrivals ≡ o → Small
+        (building file arrivals target pairsRoom formulaRoom .answer)
     go (Rejected refusal) e = rw (of-rejected file arrivals target pairsRoom formulaRoom refusal e) tt
     go (Accepted shape) e =
         let h = accepted file arrivals e .holds in

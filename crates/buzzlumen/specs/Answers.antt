@@ -72,6 +72,7 @@ Small (Unbuilt refusal) = Unit {0}
 pub record Certifies (file arrivals : List ℕ) (delay : ℕ) (vector : List ℕ) (refutation : List ℤ) (rooms : Rooms)
     (values times pairs : List ℕ) (formula : List ℤ) (propagation : List ℕ) (numbers : Answer) : Type 0 where
   pub answer : Checked
-  pub judges : Judges file arrivals delay vector refutation rooms (leaving answer values times pairs formula propagation)
+  pub judges : Judges file arrivals delay vector refutation rooms
+      (leaving answer values times pairs formula propagation)
   pub is : numbers ≡ checkedOf answer
   pub largest : numbers .number ≡ 0 → Largest (circuitOf file arrivals) delay

@@ -37,7 +37,8 @@ use Rattle.certificate.proofs.Examples.{answerTo, computed-hold}
 
 computed : map answerTo edges ≡ map (λ (c : Case). c .answer) edges
 unfolding
-    edges faults lateInputs wire circuitA written oneGate netlistRows arrivalRows firstWrong countWrong backWrong pinsBefore gateWrong gatePlace sumWrong
+    edges faults lateInputs wire circuitA written oneGate netlistRows arrivalRows firstWrong countWrong backWrong
+    pinsBefore gateWrong gatePlace sumWrong
     pinsAt pinWrong pinPlace outputWrong outputPlace kinds kindRow tableBytes shapeOf gateAt pinAt pinsFrom cellOf
     cellAt netlistAt gateValue settles grow valuesOf timesOf topsOf circuitTime givenRows flat clausesFrom
     isTrue isFree assign say pass refutes assert follows verdict refutationForm firstBeyond ended lastRow firstEmpty

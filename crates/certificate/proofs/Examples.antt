@@ -137,7 +137,8 @@ answerTo c = checkedTo (c .file) (c .arrivals) (c .delay) (c .vector) (c .refuta
 -- rows that are computed have their answers as the promise means it
 pub computed-hold : (rows : List Case) → map answerTo rows ≡ map (λ (c : Case). c .answer) rows → (c : Case) →
     List·Memᴰ c rows → (result : Judgement)
-    × Judges (c .file) (c .arrivals) (c .delay) (c .vector) (c .refutation) (c .rooms) result × (result .answer ≡ c .answer)
+    × Judges (c .file) (c .arrivals) (c .delay) (c .vector) (c .refutation) (c .rooms) result ×
+    (result .answer ≡ c .answer)
 computed-hold rows e c i = (
   judgementTo (c .file) (c .arrivals) (c .delay) (c .vector) (c .refutation) (c .rooms),
   judgement-exists (c .file) (c .arrivals) (c .delay) (c .vector) (c .refutation) (c .rooms),
@@ -148,7 +149,8 @@ computed-hold rows e c i = (
 
 computed : map answerTo cases ≡ map (λ (c : Case). c .answer) cases
 unfolding
-    cases circuitA wire netlistRows arrivalRows firstWrong countWrong backWrong pinsBefore gateWrong gatePlace sumWrong pinsAt
+    cases circuitA wire netlistRows arrivalRows firstWrong countWrong backWrong pinsBefore gateWrong gatePlace
+    sumWrong pinsAt
     pinWrong pinPlace outputWrong outputPlace kinds kindRow tableBytes shapeOf gateAt pinAt pinsFrom cellOf cellAt
     netlistAt gateValue settles grow valuesOf timesOf topsOf circuitTime givenRows flat clausesFrom
     isTrue isFree assign say pass refutes assert follows verdict refutationForm firstBeyond ended lastRow firstEmpty

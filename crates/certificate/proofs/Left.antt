@@ -42,12 +42,14 @@ demand-of-numbers circuit ok as-many target vector as-long =
 built-opened : (file arrivals : List ℕ) (target pairsRoom formulaRoom : ℕ) (counts : Counts) →
     building file arrivals target pairsRoom formulaRoom .answer ≡ Formula counts →
     (T (valid (circuitOf file arrivals .net)) × Arrives (circuitOf file arrivals))
-    × (building file arrivals target pairsRoom formulaRoom ≡ buildingOf (circuitOf file arrivals) target pairsRoom formulaRoom)
+    × (building file arrivals target pairsRoom formulaRoom ≡ buildingOf
+    (circuitOf file arrivals) target pairsRoom formulaRoom)
 built-opened file arrivals target pairsRoom formulaRoom counts f = go (openCircuitOf file arrivals) refl
   where
     go : (opened : Opened) → openCircuitOf file arrivals ≡ opened →
         (T (valid (circuitOf file arrivals .net)) × Arrives (circuitOf file arrivals))
-        × (building file arrivals target pairsRoom formulaRoom ≡ buildingOf (circuitOf file arrivals) target pairsRoom formulaRoom)
+        × (building file arrivals target pairsRoom formulaRoom ≡ buildingOf
+        (circuitOf file arrivals) target pairsRoom formulaRoom)
     go (Untaken refusal) e =
         let z : Unbuilt refusal ≡ Formula counts =
         sym (ap (λ (b : Building). b .answer) (of-rejected file arrivals target pairsRoom formulaRoom refusal e)) ∙ f
@@ -56,7 +58,8 @@ built-opened file arrivals target pairsRoom formulaRoom counts f = go (openCircu
     go (Taken shape) e = (
       opened-valid file arrivals shape e,
       of-accepted file arrivals target pairsRoom formulaRoom shape e
-          ∙ ap (λ (circuit : Circuit). buildingOf circuit target pairsRoom formulaRoom) (sym (accepted-circuit file arrivals e)),
+          ∙ ap (λ (circuit : Circuit). buildingOf circuit target pairsRoom formulaRoom)
+          (sym (accepted-circuit file arrivals e)),
     )
 
 -- of what `build` answers and leaves, for any bytes

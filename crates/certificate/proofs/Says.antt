@@ -237,7 +237,8 @@ module _ {X : Type 0} (I : ℕ) (top : ℕ → ℕ) (node : ℕ → X) (pair : �
     abbrev slowOrFalse : ℕ → Pin × Bool → Bool
     slowOrFalse t l = driverLateTrue t (l .0) || driverFails (l .0) (l .1)
 
-    cube-says : (t : ℕ) (cube : Cube Pin) → any (partTrue σ) (concatMap (cubeParts I top node pair t) cube) ≡ any (slowOrFalse t) cube
+    cube-says : (t : ℕ) (cube : Cube Pin) → any (partTrue σ) (concatMap (cubeParts I top node pair t) cube) ≡ any
+        (slowOrFalse t) cube
     cube-says t cube =
         any-concatMap (partTrue σ) (cubeParts I top node pair t) cube
         ∙ any-cong (λ l. any (partTrue σ) (cubeParts I top node pair t l)) (slowOrFalse t) cube

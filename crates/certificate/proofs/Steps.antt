@@ -272,8 +272,10 @@ module _ {circuit : Circuit} {delay : ℕ} {vector : List ℕ} {refutation : Lis
 
 module _ {file arrivals : List ℕ} {delay : ℕ} {vector : List ℕ} {refutation : List ℤ} {rooms : Rooms} where
   -- the file is refused
-  pub judges-unopened : {opened : Opened} {refusal : Refusal} {result : Judgement} → opened ≡ openCircuitOf file arrivals →
-      opened ≡ Untaken refusal → Meets (refused rooms refusal) result → Judges file arrivals delay vector refutation rooms result
+  pub judges-unopened : {opened : Opened} {refusal : Refusal} {result : Judgement} → opened
+      ≡ openCircuitOf file arrivals →
+      opened ≡ Untaken refusal → Meets
+      (refused rooms refusal) result → Judges file arrivals delay vector refutation rooms result
   judges-unopened {opened} {refusal} o e z =
       record {
         answer = Refused refusal;
@@ -286,7 +288,8 @@ module _ {file arrivals : List ℕ} {delay : ℕ} {vector : List ℕ} {refutatio
       {propagation : List ℕ} (o : opened ≡ openCircuitOf file arrivals) (e : opened ≡ Taken shape)
       (c : Certified (circuitAt file shape arrivals) delay vector refutation rooms answer values times pairs formula
       propagation) where
-    judges : {result : Judgement} → Meets (judgementOf (circuitAt file shape arrivals) delay vector rooms answer) result →
+    judges : {result : Judgement} → Meets
+        (judgementOf (circuitAt file shape arrivals) delay vector rooms answer) result →
         Judges file arrivals delay vector refutation rooms result
     judges r =
         let same = accepted-circuit file arrivals (sym o ∙ e) in

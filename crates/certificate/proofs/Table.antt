@@ -61,7 +61,8 @@ numbers-stand =
 
 -- what an evaluation with the row's rooms gives
 abbrev evaluated : Settling → Evaluation
-evaluated c = evaluation (c .file) (c .arrivals) (c .vector) (length (c .expected .values)) (length (c .expected .times))
+evaluated c = evaluation (c .file) (c .arrivals) (c .vector) (length (c .expected .values))
+    (length (c .expected .times))
 
 pub table-stands : (r : Entry) → List·Memᴰ r table → Stands r
 unfolding table
@@ -82,7 +83,8 @@ table-stands =
     (joined
     (made builds buildings
     (map-each
-    (λ (c : Building). building (c .file) (c .arrivals) (c .target) (length (c .leaves .pairs)) (length (c .leaves .formula)))
+    (λ (c : Building). building (c .file) (c .arrivals) (c .target) (length (c .leaves .pairs))
+    (length (c .leaves .formula)))
     (λ (c : Building). c .leaves) buildings buildings-hold))
     (joined (made checks checkings checkings-hold)
     (joined (made checks checkingEdges checkingEdges-hold)

@@ -21,10 +21,12 @@ same p q =
 
 -- one answer and one content of the slices, of any bytes, any delay, any vector and any refutation
 pub judges-unique : (file arrivals : List ℕ) (delay : ℕ) (vector : List ℕ) (refutation : List ℤ) (rooms : Rooms)
-    (a b : Judgement) → Judges file arrivals delay vector refutation rooms a → Judges file arrivals delay vector refutation rooms b →
+    (a b : Judgement) → Judges file arrivals delay vector refutation rooms a → Judges file arrivals delay vector
+    refutation rooms b →
     a ≡ b
 judges-unique file arrivals delay vector refutation rooms a b p q =
     same
     (subst (λ (promised : Judgement). Meets promised a)
-    (ap (judgementOf (circuitOf file arrivals) delay vector rooms) (answers-unique (p .answers) (q .answers))) (p .meets))
+    (ap (judgementOf (circuitOf file arrivals) delay vector rooms) (answers-unique (p .answers) (q .answers)))
+    (p .meets))
     (q .meets)

@@ -1,6 +1,6 @@
 -- Certificate calls with two faults at once, where the earlier row answers: each neighbouring pair of 7, 16, 8, 9,
--- 15, 10, 9, 12, 13, 9, 14; and certificates of kinds that circuit A lacks. Rows of the proved table, beside Cases. Interface:
--- edges.
+-- 15, 10, 9, 12, 13, 9, 14; and certificates of kinds that circuit A lacks. Rows of the proved table, beside Cases.
+-- Interface: edges.
 use mathlib.Core.List.{List, [], _∷_, _++_}
 use lib.IntN.{pos}
 use Rattle.refusal.specs.declared.Refusal.the-variants.{

@@ -126,8 +126,8 @@ abbrev pub judgementOf : Circuit → ℕ → List ℕ → Rooms → Checked → 
 judgementOf circuit delay vector rooms answer = unlessRefused answer (refused rooms)
     (certified circuit delay vector rooms)
 
--- of any bytes, any arrivals, any delay, any vector and any refutation: the first row before 14 that refuses; or else 14 STEP, or
--- acceptance, by the order-free verdict on the refutation against the very numbers of the formula for D+1
+-- of any bytes, any arrivals, any delay, any vector and any refutation: the first row before 14 that refuses; or else
+-- 14 STEP, or acceptance, by the order-free verdict on the refutation against the very numbers of the formula for D+1
 pub record Judges (file arrivals : List ℕ) (delay : ℕ) (vector : List ℕ) (refutation : List ℤ) (rooms : Rooms)
     (result : Judgement) : Type 0 where
   pub answer : Checked

@@ -42,7 +42,8 @@ abbrev pub Stands : Entry → Type 0
 Stands (numbers c) = (numberOf (c .refusal) ≡ c .number) × (placeOf (c .refusal) ≡ c .place)
 Stands (opens c) = openOf (c .file) ≡ c .answer
 Stands (settles c) =
-    evaluation (c .file) (c .arrivals) (c .vector) (length (c .expected .values)) (length (c .expected .times)) ≡ c .expected
+    evaluation (c .file) (c .arrivals) (c .vector) (length (c .expected .values)) (length (c .expected .times))
+    ≡ c .expected
 Stands (forms c) = building circuitA (0 ∷ 0 ∷ []) (c .target) (c .pairsRoom) (c .formulaRoom) ≡ c .leaves
 Stands (builds c) =
     building (c .file) (c .arrivals) (c .target) (length (c .leaves .pairs)) (length (c .leaves .formula)) ≡ c .leaves

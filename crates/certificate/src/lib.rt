@@ -52,7 +52,8 @@ fn refutes(
     propagation: &mut [u8],
 ) -> Checked
     requires { ⌜ Given (now file) shape (now arrivals) ⌝ }
-    ensures { λ r. ⌜ Refutes (circuitAt (now (file .entry)) shape (now (arrivals .entry))) target (now (refutation .entry))
+    ensures { λ r. ⌜ Refutes (circuitAt (now (file .entry)) shape (now (arrivals .entry))) target
+        (now (refutation .entry))
         (length (now (pairs .entry))) (length (now (formula .entry))) (length (now (propagation .entry)))
         r (now (pairs .exit)) (now (formula .exit)) (now (propagation .exit)) ⌝ }
 {
@@ -67,8 +68,8 @@ fn refutes(
     }
 }
 
-// Of an accepted file and its arrivals: the vector has a value for each input, there is room for values and times, and it settles at the
-// delay; then the refutation's part, for one more than the delay.
+// Of an accepted file and its arrivals: the vector has a value for each input, there is room for values and times, and
+// it settles at the delay; then the refutation's part, for one more than the delay.
 fn certify(
     file: &[u8],
     shape: Shape,
@@ -112,8 +113,8 @@ fn certify(
 }
 
 // The judgement of a certificate: a delay, a vector that settles at exactly it, and a refutation of the formula for
-// one more. Accepted means that the delay is the largest settling time of the file's netlist with these arrivals, whoever
-// wrote the certificate.
+// one more. Accepted means that the delay is the largest settling time of the file's netlist with these arrivals,
+// whoever wrote the certificate.
 pub fn judge(
     file: &[u8],
     arrivals: &[u32],
@@ -126,7 +127,8 @@ pub fn judge(
     formula: &mut [i32],
     propagation: &mut [u8],
 ) -> Checked
-    ensures { λ r. ⌜ Judges (now (file .entry)) (now (arrivals .entry)) delay (now (vector .entry)) (now (refutation .entry))
+    ensures { λ r. ⌜ Judges (now (file .entry)) (now (arrivals .entry)) delay (now (vector .entry))
+        (now (refutation .entry))
         (roomsOf (now (values .entry)) (now (times .entry)) (now (pairs .entry)) (now (formula .entry))
         (now (propagation .entry)))
         (leaving r (now (values .exit)) (now (times .exit)) (now (pairs .exit)) (now (formula .exit))
@@ -134,7 +136,7 @@ pub fn judge(
     ensures { λ r. ⌜ (r ≡ Passes →
         Largest (circuitOf (now (file .entry)) (now (arrivals .entry))) delay) ⌝ }
 {
-    let opened = netlist::open_circuit(file, arrivals);
+    let opened = netlist::arrived(netlist::open(file), arrivals);
     match opened {
         Opened::Refused(refusal) => refuse(refusal, values, times, pairs, formula, propagation),
         Opened::Accepted(shape) => {

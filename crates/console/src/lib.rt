@@ -5,10 +5,11 @@ use libc::STDOUT_FILENO;
 use refusal::Refusal;
 ghost use mathlib.Core.Path.{_≡_};
 ghost use mathlib.Core.Bool.{false};
-ghost use Prim.Native.Nat.{_*_, _≤_, min};
-ghost use lib.ListN.{length};
+ghost use mathlib.Core.List.{_++_};
+ghost use Prim.Native.Nat.{_-_, _*_, _/_, _≤_, min};
+ghost use lib.ListN.{length, drop};
 ghost use Rattle.io.specs.Counts.{Counts};
-ghost use Rattle.console.specs.Reading.{numbersOf, wordOf, Came};
+ghost use Rattle.console.specs.Reading.{numbersOf, unsignedOf, toldOf, wordOf, Came};
 
 // Words as they are.
 pub fn print(words: &[u8]) {
@@ -101,4 +102,44 @@ pub fn numbers_of(bytes: &[u8], numbers: &mut [i32])
         numbers[k] = clauses::signed(lent::four_bytes(bytes, k * 4));
         k += 1;
     }
+}
+
+// The same for unsigned numbers.
+pub fn unsigned_of(bytes: &[u8], numbers: &mut [u32])
+    requires { ⌜ length (now numbers) * 4 ≤ length (now bytes) ⌝ }
+    ensures { λ _. ⌜ now (numbers .exit) ≡ unsignedOf (now (bytes .entry)) (length (now (numbers .entry))) ⌝ }
+{
+    let mut k = 0;
+    while k < numbers.len() {
+        numbers[k] = lent::four_bytes(bytes, k * 4) as u32;
+        k += 1;
+    }
+}
+
+// The length that stands in front of a list, in its first four bytes; none where these are cut short.
+pub fn told_by(list: &[u8]) -> usize
+    ensures { λ r. ⌜ r ≡ toldOf (now (list .entry)) ⌝ }
+{
+    if list.len() < 4 {
+        return 0;
+    }
+    lent::four_bytes(list, 0)
+}
+
+// The unsigned numbers of a list that begins with their count: as many as are told, are there and have room; how many.
+pub fn counted_of(list: &[u8], numbers: &mut [u32]) -> usize
+    ensures { λ r. ⌜
+        (r ≡ min (min (toldOf (now (list .entry))) ((length (now (list .entry)) - 4) / 4))
+        (length (now (numbers .entry))))
+        × (now (numbers .exit) ≡ unsignedOf (drop 4 (now (list .entry))) r ++ drop r (now (numbers .entry)))
+        × (r ≤ length (now (numbers .exit)))
+        ⌝ }
+{
+    if list.len() < 4 {
+        return 0;
+    }
+    let there = least(told_by(list), (list.len() - 4) / 4);
+    let count = least(there, numbers.len());
+    unsigned_of(&list[4..], &mut numbers[..count]);
+    count
 }

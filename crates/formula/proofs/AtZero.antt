@@ -1,5 +1,5 @@
--- With all inputs at 0 the rules say what they say without arrivals: an input is late at 0 outright, and at no other time.
--- (That it settles at 0 and has top 0 is in settle: zero-time, zero-top; that no refusal is added, in netlist:
+-- With all inputs at 0 the rules say what they say without arrivals: an input is late at 0 outright, and at no other
+-- time. (That it settles at 0 and has top 0 is in settle: zero-time, zero-top; that no refusal is added, in netlist:
 -- zero-opens.) Law: zero-late. Assumes nothing.
 use mathlib.Core.Path.{_≡_, refl}
 use mathlib.Core.Bool.{cond}

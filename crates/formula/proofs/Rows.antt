@@ -88,7 +88,8 @@ front file shape arrivals target table count h =
     let f : length (flatPairs (pairsAt file shape arrivals target)) ≡ count * 2 = flat-length l ∙ omega (arith, h .0) in
     ap (take (count * 2)) (h .2) ∙ take-at (flatPairs l) (replicate (length table - count * 2) 0) (count * 2) f
 
-module _ (file : List ℕ) (shape : Shape) (arrivals : List ℕ) (target : ℕ) (tops table : List ℕ) (e : tops ≡ topsAt file shape arrivals)
+module _ (file : List ℕ) (shape : Shape) (arrivals : List ℕ) (target : ℕ) (tops table : List ℕ)
+    (e : tops ≡ topsAt file shape arrivals)
     (f : table ≡ tableAt file shape arrivals target) where
   -- is what `emit` asks
   pub lent-ready : Given file shape arrivals → length (pairsAt file shape arrivals target) ≤ 65536 →
@@ -114,7 +115,8 @@ module _ (file : List ℕ) (shape : Shape) (arrivals : List ℕ) (target : ℕ) 
 -- ---- the two ends of `write`
 
 module _ (file : List ℕ) (shape : Shape) (arrivals : List ℕ) (target : ℕ) (table : List ℕ) (count : ℕ)
-    (held : Held (pairsAt file shape arrivals target) (length table) table (Count count)) (before after : List ℤ) (to : Emitted)
+    (held : Held (pairsAt file shape arrivals target) (length table) table (Count count)) (before after : List ℤ)
+    (to : Emitted)
     (n : Numbered (formulaFor (circuitAt file shape arrivals) target) before after to)
     (same : length after ≡ length before) where
   room-held : length (pairsAt file shape arrivals target) ≤ tableHolds (length table)
@@ -122,11 +124,13 @@ module _ (file : List ℕ) (shape : Shape) (arrivals : List ℕ) (target : ℕ) 
 
   pub wrote-none : (pairs : List ℕ) (formula : List ℤ) → length after < to .numbers →
       pairs ≡ replicate (length table) 0 → formula ≡ replicate (length after) (pos 0) →
-      Meets (buildingOf (circuitAt file shape arrivals) target (length table) (length before)) (Refused (Room (to .numbers)))
+      Meets (buildingOf (circuitAt file shape arrivals) target (length table) (length before))
+      (Refused (Room (to .numbers)))
       pairs formula
   unfolding numbersFor
   wrote-none pairs formula h e f =
-      rw (no-room (circuitAt file shape arrivals) target (length table) (length before) room-held (omega (arith, n .numbers)))
+      rw (no-room (circuitAt file shape arrivals) target (length table) (length before) room-held
+      (omega (arith, n .numbers)))
       (record {
         answer-is = ap (λ (m : ℕ). Refused (Room m)) (n .numbers);
         pairs-are = e;
@@ -153,7 +157,8 @@ module _ (file : List ℕ) (shape : Shape) (arrivals : List ℕ) (target : ℕ) 
       omega (arith, held .0, node-count file shape)
       in
       let r : length after - to .numbers ≡ length before - length (flat cs) = omega (arith, n .numbers) in
-      rw (all-room (circuitAt file shape arrivals) target (length table) (length before) room-held (omega (arith, n .numbers)))
+      rw (all-room (circuitAt file shape arrivals) target (length table) (length before) room-held
+      (omega (arith, n .numbers)))
       (record {
         answer-is =
             ap Formula
@@ -192,7 +197,8 @@ meets-as file shape formulaRoom {arrivals = arrivals} {wanted} {long = long} {an
     ∙ ap₂ (λ (t r : ℕ). buildingOf (circuitAt file shape arrivals) t r formulaRoom) e f) m
 
 pub listed-none : (file : List ℕ) (shape : Shape) (arrivals : List ℕ) (target pairsRoom formulaRoom : ℕ)
-    (pairs : List ℕ) (formula : List ℤ) (listed : Listed) → Held (pairsAt file shape arrivals target) pairsRoom pairs listed → listed ≡ TooMany →
+    (pairs : List ℕ) (formula : List ℤ) (listed : Listed) → Held
+    (pairsAt file shape arrivals target) pairsRoom pairs listed → listed ≡ TooMany →
     formula ≡ replicate formulaRoom (pos 0) →
     Meets (buildingOf (circuitAt file shape arrivals) target pairsRoom formulaRoom) (Refused Pairs) pairs formula
 listed-none file shape arrivals target pairsRoom formulaRoom pairs formula listed h e f =
@@ -202,15 +208,18 @@ listed-none file shape arrivals target pairsRoom formulaRoom pairs formula liste
 
 module _ (file arrivals : List ℕ) (target pairsRoom formulaRoom : ℕ) where
   pub of-accepted : (shape : Shape) → openCircuitOf file arrivals ≡ Accepted shape →
-      building file arrivals target pairsRoom formulaRoom ≡ buildingOf (circuitAt file shape arrivals) target pairsRoom formulaRoom
+      building file arrivals target pairsRoom formulaRoom ≡ buildingOf
+      (circuitAt file shape arrivals) target pairsRoom formulaRoom
   unfolding building buildingOf
   of-accepted shape e =
-      call-accepted file arrivals (λ circuit. buildingRows circuit target pairsRoom formulaRoom) (refused pairsRoom formulaRoom)
+      call-accepted file arrivals (λ circuit. buildingRows circuit target pairsRoom formulaRoom)
+      (refused pairsRoom formulaRoom)
       (λ circuit. built circuit target pairsRoom formulaRoom) e
 
   pub of-rejected : (refusal : Refusal) → openCircuitOf file arrivals ≡ Rejected refusal →
       building file arrivals target pairsRoom formulaRoom ≡ refused pairsRoom formulaRoom refusal
   unfolding building
   of-rejected refusal e =
-      call-rejected file arrivals (λ circuit. buildingRows circuit target pairsRoom formulaRoom) (refused pairsRoom formulaRoom)
+      call-rejected file arrivals (λ circuit. buildingRows circuit target pairsRoom formulaRoom)
+      (refused pairsRoom formulaRoom)
       (λ circuit. built circuit target pairsRoom formulaRoom) e

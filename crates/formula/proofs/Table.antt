@@ -60,11 +60,13 @@ module _ (file : List ℕ) (shape : Shape) (arrivals : List ℕ) (target : ℕ) 
   half : length (tableAt file shape arrivals target) / 2 ≡ length (pairsAt file shape arrivals target)
   half = let e = flat-length (pairsAt file shape arrivals target) in omega arith
 
-  lists : Lists (tableAt file shape arrivals target) (length (tableAt file shape arrivals target) / 2) (pairsAt file shape arrivals target)
+  lists : Lists (tableAt file shape arrivals target) (length (tableAt file shape arrivals target) / 2)
+      (pairsAt file shape arrivals target)
   lists =
       let e = flat-length (pairsAt file shape arrivals target) in
       lists-for target (tableAt file shape arrivals target) (length (tableAt file shape arrivals target) / 2) given half
-      (take-all (length (tableAt file shape arrivals target) / 2 * 2) (tableAt file shape arrivals target) (omega arith))
+      (take-all (length (tableAt file shape arrivals target) / 2 * 2) (tableAt file shape arrivals target)
+      (omega arith))
 
   all-tops : length (topsAt file shape arrivals) ≡ shape .inputs + shape .gates
   all-tops =
@@ -112,7 +114,8 @@ module _ (file : List ℕ) (shape : Shape) (arrivals : List ℕ) (target : ℕ) 
               let b = given .holds .drivers-below g pin gate-here l h in
               asking (driverAt file shape pin) (t - delayAt file shape pin) (omega (arith, gate-here))
               (λ x y z.
-              driver-for (circuitAt file shape arrivals) (given .holds .valid) target f (cellAt file shape g) cell-here t m
+              driver-for (circuitAt file shape arrivals) (given .holds .valid) target f
+              (cellAt file shape g) cell-here t m
               (pinAt file shape pin) (pin-has file shape g pin l h) x y z);
         }
 

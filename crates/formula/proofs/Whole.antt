@@ -152,9 +152,11 @@ module _ (file : List ℕ) (shape : Shape) (arrivals : List ℕ) (target : ℕ) 
   ofPairs =
       let net = netlistAt file shape in
       concatMap (λ x. concatMap (ofGate x)
-      (timesAt (net .inputs) (topOf (circuitAt file shape arrivals)) (net .outputs) target (net .gates) (x .0))) (nodes net)
+      (timesAt (net .inputs) (topOf (circuitAt file shape arrivals)) (net .outputs) target (net .gates) (x .0)))
+      (nodes net)
 
-  pairs-put : concatMap (pairRun file (lentAt file shape arrivals target)) (upFrom 0 (pairsCount (lentAt file shape arrivals target)))
+  pairs-put : concatMap (pairRun file (lentAt file shape arrivals target))
+      (upFrom 0 (pairsCount (lentAt file shape arrivals target)))
       ≡ tokensOf ofPairs
   unfolding pairsFor pairList
   pairs-put =

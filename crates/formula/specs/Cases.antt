@@ -114,7 +114,8 @@ cases =
 pub hold : map (λ (c : Case). building circuitA (0 ∷ 0 ∷ []) (c .target) (c .pairsRoom) (c .formulaRoom)) cases
     ≡ map (λ (c : Case). c .leaves) cases
 unfolding
-    circuitA netlistRows arrivalRows firstWrong countWrong backWrong pinsBefore gateWrong gatePlace sumWrong pinsAt pinWrong
+    circuitA netlistRows arrivalRows firstWrong countWrong backWrong pinsBefore gateWrong gatePlace sumWrong pinsAt
+    pinWrong
     pinPlace outputWrong outputPlace kinds kindRow tableBytes shapeOf gateAt pinAt pinsFrom cellOf cellAt
     netlistAt grow topsOf flat asked timesAt pairList flatPairs pairsFor pairPlace clauseOf gateClauses late pairClauses
     formula pairVariable formulaFor numbersFor countsFor built buildingRows building printed gateLines cases

@@ -118,8 +118,8 @@ muxOfBuffers =
     written 3 ((1, 1, 0) ∷ (1, 1, 1) ∷ (1, 1, 2) ∷ (9, 3, 3) ∷ [])
     ((0, 1) ∷ (1, 1) ∷ (2, 1) ∷ (3, 1) ∷ (4, 1) ∷ (5, 1) ∷ []) (6 ∷ [])
 
--- BUF, NOT, AND, NAND, OR, NOR, XOR, XNOR, MUX at their tops, and MUX behind gates, with all its clauses; XOR of one input twice, whose repeated and opposite
--- literals stay; two outputs in order
+-- BUF, NOT, AND, NAND, OR, NOR, XOR, XNOR, MUX at their tops, and MUX behind gates, with all its clauses; XOR of one
+-- input twice, whose repeated and opposite literals stay; two outputs in order
 unfoldable pub everyKind : List Case
 everyKind =
     builds (oneGate 1 (3 ∷ [])) 3 3 3 (1 ∷ 3 ∷ [])
@@ -187,8 +187,8 @@ orders =
     ∷ refuses circuitA 0 0 25 (Room 26)
     ∷ refuses circuitA 6 0 26 (Room 27) ∷ []
 
--- late inputs. Circuit A with b at 4, at its top: b is late at 4 outright, and not at 5. An input that is the output and
--- arrives at 7: late outright at 7, and not at 8. Then 16, behind 7 and before 10 and 9
+-- late inputs. Circuit A with b at 4, at its top: b is late at 4 outright, and not at 5. An input that is the output
+-- and arrives at 7: late outright at 7, and not at 8. Then 16, behind 7 and before 10 and 9
 unfoldable pub lateInputs : List Case
 lateInputs =
     buildsWith circuitA (0 ∷ 4 ∷ []) 6 7 13 (3 ∷ 5 ∷ 4 ∷ 6 ∷ [])
@@ -214,7 +214,9 @@ pub edges-hold :
     building (c .file) (c .arrivals) (c .target) (length (c .leaves .pairs)) (length (c .leaves .formula))) edges
     ≡ map (λ (c : Case). c .leaves) edges
 unfolding
-    edges everyKind targets orders lateInputs muxOfBuffers written oneGate circuitA xorTwice muxOfThree netlistRows arrivalRows firstWrong countWrong
+    edges everyKind targets orders lateInputs muxOfBuffers written oneGate circuitA xorTwice muxOfThree netlistRows
+    arrivalRows
+    firstWrong countWrong
     backWrong pinsBefore gateWrong gatePlace sumWrong pinsAt pinWrong pinPlace outputWrong outputPlace kinds kindRow
     tableBytes shapeOf gateAt pinAt pinsFrom cellOf cellAt netlistAt grow topsOf flat asked timesAt pairList flatPairs
     pairsFor pairPlace clauseOf gateClauses late pairClauses formula pairVariable formulaFor numbersFor countsFor

@@ -75,5 +75,6 @@ buildingOf circuit target pairsRoom formulaRoom =
 -- of any bytes, any arrivals and any target, with room for so many numbers in the table and the formula
 unfoldable pub building : List ℕ → List ℕ → ℕ → ℕ → ℕ → Building
 building file arrivals target pairsRoom formulaRoom =
-    callOver file arrivals (λ circuit. buildingRows circuit target pairsRoom formulaRoom) (refused pairsRoom formulaRoom)
+    callOver file arrivals (λ circuit. buildingRows circuit target pairsRoom formulaRoom)
+    (refused pairsRoom formulaRoom)
     (λ circuit. built circuit target pairsRoom formulaRoom)

@@ -294,15 +294,15 @@ fn top_at(tops: &[u32], node: usize) -> usize
     lent::widen(tops[node])
 }
 
-// A pair's place in the table.
-fn place_of(table: &[u32], starts: &[usize], node: usize, t: usize) -> usize
+// A pair's place in the table, with a guess at it.
+fn place_of(table: &[u32], starts: &[usize], node: usize, t: usize, guess: usize) -> usize
     requires { ⌜
         Findable (now table) (length (now table) / 2) node t
         × Bounds (pairsIn (take (length (now table) / 2 * 2) (now table))) (now starts) node
         ⌝ }
     ensures { λ r. ⌜ PlaceFound (now (table .entry)) node t r ⌝ }
 {
-    pairs::place(table, table.len() / 2, starts, node, t)
+    pairs::place(table, table.len() / 2, starts, node, t, guess)
 }
 
 // The variable of pair k (rule F5).
@@ -313,7 +313,8 @@ fn pair_variable(shape: Shape, k: usize) -> usize
     shape.inputs + shape.gates + k + 1
 }
 
-// That a node is late at t, as a code: 1 if true outright, 0 if false outright, else the code of its pair's literal.
+// That a node is late at t, as a code: 1 if true outright, 0 if false outright, else the code of its pair's literal,
+// with a guess at the pair's place.
 fn late_code(
     shape: Shape,
     tops: &[u32],
@@ -321,6 +322,7 @@ fn late_code(
     starts: &[usize],
     node: usize,
     t: usize,
+    guess: usize,
 ) -> usize
     requires { ⌜
         Ready (lent shape (now tops) (now table)) (now starts) × Asking (lent shape (now tops) (now table)) node t
@@ -340,7 +342,7 @@ fn late_code(
     if top < t {
         return 0;
     }
-    pair_variable(shape, place_of(table, starts, node, t)) * 2
+    pair_variable(shape, place_of(table, starts, node, t, guess)) * 2
 }
 
 // What an entry asks for: a pin its driver, at t less its delay; an output itself, at t.
@@ -381,6 +383,14 @@ fn store(nodes: &mut [u16; 64], lates: &mut [u32; 64], i: usize, node: usize, la
     lates[i] = late as u32;
 }
 
+// A guess at the place of what entry i asks for: the one after the place that was stored last. The times of a gate's
+// pairs rise, and those of a driver's pairs often with them.
+fn guess_at(shape: Shape, lates: &[u32; 64], i: usize) -> usize
+    requires { ⌜ (shape .inputs + shape .gates ≤ 512) × (i < 64) ⌝ }
+{
+    less(lent::widen(lates[i]) / 2, shape.inputs + shape.gates)
+}
+
 // What each of `count` entries asks for, from number `first` on, and whether some of it is late outright.
 fn read_asked(
     file: &[u8],
@@ -409,7 +419,8 @@ fn read_asked(
     let mut i = 0;
     while i < count {
         let asked = moment_at(file, shape, side, first + i, t);
-        let late = late_code(shape, tops, table, starts, asked.node, asked.time);
+        let guess = guess_at(shape, lates, i);
+        let late = late_code(shape, tops, table, starts, asked.node, asked.time, guess);
         store(nodes, lates, i, asked.node, late);
         sure = sure | (late == 1);
         i += 1;
@@ -649,8 +660,8 @@ fn put_literal_late(formula: &mut [i32], at: Emitted, driver: Asked, value: bool
     put_node(formula, part, driver.node, !value)
 }
 
-// The clause of a controlling cube of two literals, pin x at a and pin y at b: not the pair, or x late, or not at a, or y
-// late, or not at b. It is left out where a driver is late outright.
+// The clause of a controlling cube of two literals, pin x at a and pin y at b: not the pair, or x late, or not at a,
+// or y late, or not at b. It is left out where a driver is late outright.
 fn cube_clause(
     nodes: &[u16; 64],
     lates: &[u32; 64],
@@ -895,7 +906,8 @@ fn output_clause(
     late_clause(0, nodes, lates, count, sure, formula, at)
 }
 
-// 1, 2 and 3 in order, from the slice's first place on.
+// 1, 2 and 3 in order, from the slice's first place on. What is read of a gate's pins, or of the outputs, is held in
+// two arrays for all of them: they are zeroed once, and a pair finds there what the one before it left.
 fn emit(
     file: &[u8],
     shape: Shape,
@@ -1053,7 +1065,7 @@ pub fn build(
         (length (now (formula .entry)))) r (now (pairs .exit)) (now (formula .exit))
         ⌝ }
 {
-    let opened = netlist::open_circuit(file, arrivals);
+    let opened = netlist::arrived(netlist::open(file), arrivals);
     match opened {
         netlist::Opened::Accepted(shape) => {
             return build_from(file, shape, arrivals, target, pairs, formula);

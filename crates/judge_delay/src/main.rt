@@ -1,9 +1,10 @@
-// Judges a delay certificate. Standard input: the delay (4 bytes, little endian), the vector's length (4 bytes), the
-// vector, one byte an input, the refutation's length in numbers (4 bytes), its numbers (4 bytes each, two's
-// complement, little endian), then the netlist to the end. Prints `accepted` or `refused number place`. An input of
-// fewer than 8 bytes is `refused 1` and its length; a list that is cut short leaves no netlist, `refused 1 0`. Its
-// room: an input of 524,288 bytes (a longer one: `refused 9 524289`), 32,768 pairs, a formula of 524,288 numbers,
-// 100,000 variables. What matters is certificate::judge's contract. Assumes nothing of its own.
+// Judges a delay certificate. Standard input is the delay (4 bytes, little endian) and four lists, each behind its
+// length (4 bytes): the vector, one byte an input; the refutation, 4 bytes a number, two's complement, its length in
+// numbers; the netlist; the arrivals, 4 bytes an input, their length in numbers. A list that is cut short is read as
+// far as it goes, and what stands behind the last counts for nothing. Prints `accepted` or `refused number place`. An
+// input of fewer than 8 bytes is `refused 1` and its length. Its room: an input of 524,288 bytes (a longer one:
+// `refused 9 524289`), 32,768 pairs, a formula of 524,288 numbers, 100,000 variables. What matters is
+// certificate::judge's contract. Assumes nothing of its own.
 use refusal::Checked;
 use refusal::Refusal;
 ghost use Prim.Native.Nat.{_*_, _≤_};
@@ -12,6 +13,7 @@ ghost use lib.ListN.{length};
 // The answer for a certificate.
 fn show(
     file: &[u8],
+    arrivals: &[u32],
     delay: u32,
     vector: &[u8],
     refutation: &[i32],
@@ -23,6 +25,7 @@ fn show(
     let mut propagation = [0u8; 100001];
     let answer = certificate::judge(
         file,
+        arrivals,
         delay,
         vector,
         refutation,
@@ -38,25 +41,40 @@ fn show(
     }
 }
 
-// The refutation read, as many numbers as there is room for, and what stands behind it taken for the netlist.
-fn with_refutation(rest: &[u8], delay: u32, vector: &[u8], numbers: &mut [i32])
-    requires { ⌜ length (now numbers) * 4 ≤ length (now rest) ⌝ }
-{
-    console::numbers_of(rest, numbers);
+// The arrivals read, of which the 65th is one too many for any netlist.
+fn with_netlist(rest: &[u8], file: &[u8], delay: u32, vector: &[u8], refutation: &[i32]) {
+    let mut arrivals = [0u32; 65];
+    let count = console::counted_of(rest, &mut arrivals);
     let mut pairs = [0u32; 65536];
     let mut formula = [0i32; 524288];
-    let end = numbers.len() * 4;
     show(
-        &rest[end..],
+        file,
+        &arrivals[..count],
         delay,
         vector,
-        numbers,
+        refutation,
         &mut pairs,
         &mut formula,
     );
 }
 
-// What stands behind the vector: the refutation's length, the refutation, the netlist.
+// What stands behind the refutation: the netlist, then the arrivals.
+fn take_netlist(rest: &[u8], delay: u32, vector: &[u8], refutation: &[i32]) {
+    let start = console::least(4, rest.len());
+    let end = start + console::least(console::told_by(rest), rest.len() - start);
+    with_netlist(&rest[end..], &rest[start..end], delay, vector, refutation);
+}
+
+// The refutation read, as many numbers as there is room for, and what stands behind it.
+fn with_refutation(rest: &[u8], delay: u32, vector: &[u8], numbers: &mut [i32])
+    requires { ⌜ length (now numbers) * 4 ≤ length (now rest) ⌝ }
+{
+    console::numbers_of(rest, numbers);
+    let end = numbers.len() * 4;
+    take_netlist(&rest[end..], delay, vector, numbers);
+}
+
+// What stands behind the vector: the refutation, the netlist, the arrivals.
 fn with_vector(rest: &[u8], delay: u32, vector: &[u8], numbers: &mut [i32]) {
     if rest.len() < 4 {
         return console::print_refused(Refusal::Short(0));

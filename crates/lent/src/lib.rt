@@ -1,6 +1,5 @@
-// What every call does with what its caller lends: zeros in slices of three element types, one slice copied to the front
-// of another, numbers out of bytes.
-// Assumes nothing.
+// What every call does with what its caller lends: zeros in slices of three element types, one slice copied to the
+// front of another, numbers out of bytes. Assumes nothing.
 ghost use mathlib.Core.Path.{_≡_};
 ghost use mathlib.Core.List.{_++_};
 ghost use Prim.Native.Nat.{_+_, _-_, _≤_, _<_};

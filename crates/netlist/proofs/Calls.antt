@@ -29,6 +29,7 @@ use Rattle.netlist.specs.Open.{
   arrivalRows,
   circuitRows,
   openCircuitOf,
+  arrivedOf,
   rowsOver,
   callOver,
 }
@@ -130,6 +131,15 @@ module _ (file arrivals : List ℕ) where
       ∙ ap (λ (s : Shape). answer s (arrivalRows (s .inputs) arrivals)) (sym (own .1))
       ∙ ap (λ (c : Checked). unlessRefused c Refused (Accepted (shapeOf file)))
       (sym (passed-first (netlistRows file) (arrivalRows (shapeOf file .inputs) arrivals) (own .0)))
+
+  -- so what `open` and then `arrived` answer is that of both
+  pub opened-both : {opened answer : Opened} → opened ≡ openOf file → answer ≡ arrivedOf opened arrivals →
+      answer ≡ openCircuitOf file arrivals
+  opened-both {opened} o e = e ∙ go opened (sym o)
+    where
+      go : (opened : Opened) → openOf file ≡ opened → arrivedOf opened arrivals ≡ openCircuitOf file arrivals
+      go (Refused refusal) f = by-file f
+      go (Accepted shape) f = by-arrivals f refl
 
   -- ---- a call on them
 

@@ -1,6 +1,6 @@
 -- Rows 1 to 7 and 16 of the table of refusals (rule T1), in the sequence of rules C3 and C4: no pin until all gates are
 -- right, no output until all pins are, no arrival until the netlist is. Interface: netlistRows, openOf, listRows,
--- arrivalRows, circuitRows, openCircuitOf, rowsOver, callOver.
+-- arrivalRows, circuitRows, openCircuitOf, arrivedOf, rowsOver, callOver.
 use mathlib.Core.Bool.{Bool, not, _&&_, _||_, cond}
 use mathlib.Core.List.{List, [], _∷_, _++_, map}
 use Prim.Native.Nat.{ℕ, zero, suc, _+_, _-_}
@@ -135,6 +135,12 @@ circuitRows file arrivals = netlistRows file ++ arrivalRows (shapeOf file .input
 unfoldable pub openCircuitOf : List ℕ → List ℕ → Opened
 openCircuitOf file arrivals =
     unlessRefused (checked (circuitRows file arrivals)) Refused (Accepted (shapeOf file))
+
+-- the same by the file's own answer
+abbrev pub arrivedOf : Opened → List ℕ → Opened
+arrivedOf (Refused refusal) arrivals = Refused refusal
+arrivedOf (Accepted shape) arrivals =
+    unlessRefused (checked (arrivalRows (shape .inputs) arrivals)) Refused (Accepted shape)
 
 -- the rows of a call on any list of bytes and any arrivals: 1 to 7 and 16, then the call's own over the circuit
 abbrev pub rowsOver : List ℕ → List ℕ → (Circuit → List Row) → List Row

@@ -11,7 +11,7 @@ ghost use Rattle.netlist.specs.Kinds.{kindOf, fewest, most, recordOf, di
 ghost use Rattle.netlist.specs.File.{gateAt, countAt, driverAt, delayAt, outputAt, shapeOf, tableBytes};
 ghost use Rattle.netlist.specs.Open.{openOf, countWrong, backWrong, pinsBefore, gateWrong, gatePlace};
 ghost use Rattle.netlist.specs.Open.{pinWrong, rightPins, pinPlace, outputWrong, outputPlace};
-ghost use Rattle.netlist.specs.Open.{firstWrong, arrivalRows, openCircuitOf};
+ghost use Rattle.netlist.specs.Open.{firstWrong, arrivalRows, arrivedOf};
 ghost use Rattle.refusal.specs.Rows.{checked};
 ghost use Rattle.netlist.specs.Holds.{InRange, Tables, Framed};
 
@@ -434,11 +434,11 @@ fn check_arrivals(arrivals: &[u32], inputs: usize) -> Checked
     Checked::Passes
 }
 
-// The answer for any bytes and any arrivals: checks 1 to 7, then 16.
-pub fn open_circuit(file: &[u8], arrivals: &[u32]) -> Opened
-    ensures { λ r. ⌜ r ≡ openCircuitOf (now (file .entry)) (now (arrivals .entry)) ⌝ }
+// What the arrivals make of the answer for a file: check 16, behind 1 to 7. A call opens the file by itself first: so
+// the compiler keeps `open` apart, and quick.
+pub fn arrived(opened: Opened, arrivals: &[u32]) -> Opened
+    ensures { λ r. ⌜ r ≡ arrivedOf opened (now (arrivals .entry)) ⌝ }
 {
-    let opened = open(file);
     match opened {
         Opened::Refused(refusal) => Opened::Refused(refusal),
         Opened::Accepted(found) => {

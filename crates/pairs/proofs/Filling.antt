@@ -44,7 +44,8 @@ use Rattle.pairs.proofs.Step.{AskedAt, facts-of, stepped, asked-of}
 abbrev pub foundIn : List ℕ → ℕ → List (ℕ × ℕ)
 foundIn table at = pairsIn (take (length table - at * 2) (drop (at * 2) table))
 
-pub record Filling (file : List ℕ) (shape : Shape) (arrivals : List ℕ) (target : ℕ) (table₀ table ends : List ℕ) (at f b : ℕ) :
+pub record Filling (file : List ℕ) (shape : Shape) (arrivals : List ℕ) (target : ℕ) (table₀ table ends : List ℕ)
+    (at f b : ℕ) :
     Type 0 where
   pub done : List (ℕ × ℕ)
   pub len : length table ≡ length table₀
@@ -103,9 +104,11 @@ module _ {file : List ℕ} {shape : Shape} {arrivals : List ℕ} (given : Given 
       foundIn table at ≡ w .done
   seen {table = table} {at = at} w = ap pairsIn (part table (at * 2) ∙ w .is) ∙ pairs-flat (w .done)
 
-  module _ {table₀ table ends : List ℕ} {at f b : ℕ} (w : Filling file shape arrivals target table₀ table ends at f b) where
+  module _ {table₀ table ends : List ℕ} {at f b : ℕ}
+      (w : Filling file shape arrivals target table₀ table ends at f b) where
     -- the top of the node below, as it is read, is small
-    pub filling-top : {tops : List ℕ} → shape .inputs < f → Tops file shape arrivals tops → (x : ℕ) → x ≡ getD tops (f - 1) 0 →
+    pub filling-top : {tops : List ℕ} → shape .inputs < f → Tops file shape arrivals tops → (x : ℕ) → x ≡ getD tops
+        (f - 1) 0 →
         x ≤ latest
     filling-top h tops x q = top-read given (f - 1) x tops (omega (arith, w .nodes)) q .1
 

@@ -38,7 +38,8 @@ use Rattle.pairs.proofs.Filling.{
   filling-ends,
 }
 
-pub record Finding (file : List ℕ) (shape : Shape) (arrivals : List ℕ) (target : ℕ) (table₀ table ends : List ℕ) (at f : ℕ)
+pub record Finding (file : List ℕ) (shape : Shape) (arrivals : List ℕ) (target : ℕ) (table₀ table ends : List ℕ)
+    (at f : ℕ)
     (marks : List ℕ) (low word bits : ℕ) : Type 0 where
   pub bound : ℕ
   pub filling : Filling file shape arrivals target table₀ table ends at f bound
@@ -66,7 +67,8 @@ module _ {file : List ℕ} {shape : Shape} {arrivals : List ℕ} (given : Given 
     module _ (read : bits ≡ 0) where
       empty : Scanning (AskedAt file shape arrivals target f) (w .bound) marks low word 0
       empty =
-          subst (λ (x : ℕ). Scanning (AskedAt file shape arrivals target f) (w .bound) marks low word x) read (w .scanning)
+          subst (λ (x : ℕ). Scanning (AskedAt file shape arrivals target f) (w .bound) marks low word x) read
+          (w .scanning)
 
       -- on to the last word before it with a mark
       pub finding-next : {r : ℕ} (v : ℕ) → low < word → LastWord marks low (word - 1) r → v ≡ getD marks r 0 →

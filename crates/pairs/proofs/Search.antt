@@ -1,7 +1,7 @@
 -- The search by halves: all before `low` are before the key, none from `high` on is, and half of what is between goes
 -- at each turn. A pair of the list stands where the search for its key ends. Laws: searching-starts, searching-up,
 -- searching-down, searching-ends, searching-between, searching-node; precede-le, node-precede; begins-at, begins-more;
--- sorted-le, rising-sorted; lists-sorted, lists-long, first-early, place-found. Assumes nothing.
+-- sorted-le, rising-sorted; lists-sorted, lists-long, place-found. Assumes nothing.
 use mathlib.Core.Path.{_≡_, refl, sym, ap, subst, _∙_}
 use mathlib.Core.Logic.{inl, inr}
 use mathlib.Core.List.{List, [], _∷_, List·Memᴰ, List·Memᴰ·head, List·Memᴰ·tail}
@@ -16,7 +16,7 @@ use Rattle.pairs.specs.Table.{pairsIn, pairAt, keyOf, Sorted, Searching,
 use Rattle.pairs.specs.Promise.{Lists, Findable, Bounds, Begins}
 use Rattle.pairs.proofs.Rising.{above-at}
 use Rattle.pairs.proofs.Closed.{place-below, place-at}
-use Rattle.pairs.proofs.Flat.{mem-at, at-mem, pairs-flat, flat-length}
+use Rattle.pairs.proofs.Flat.{mem-at, pairs-flat, flat-length}
 
 -- ---- keys for the order of pairs
 
@@ -179,40 +179,6 @@ pub lists-long : {table : List ℕ} {count : ℕ} {pairs : List (ℕ × ℕ)} �
     count * 2 ≤ length table
 lists-long {table} {count} {pairs} w =
     omega (arith, length-take (count * 2) table, ap length (w .is), flat-length pairs, w .all)
-
--- a node with a listed pair has a first pair, whose time is not later
-pub first-early : {table : List ℕ} {count node time : ℕ} {starts : List ℕ} → Findable table count node time →
-    Bounds (pairsIn (take (count * 2) table)) starts node →
-    (getD starts node 0 < length (pairsIn (take (count * 2) table)))
-    × (pairAt (pairsIn (take (count * 2) table)) (getD starts node 0) .1 ≤ time)
-first-early {table} {count} {node} {time} {starts} w b =
-    let l = pairsIn (take (count * 2) table) in
-    let here = subst (λ (x : List (ℕ × ℕ)). List·Memᴰ (node, time) x) (sym (lists-in (w .lists))) (w .here) in
-    go (at-mem (0, 0) l (node, time) here)
-  where
-    go : (k : ℕ) × (k < length (pairsIn (take (count * 2) table)))
-        × (getD (pairsIn (take (count * 2) table)) k (0, 0) ≡ (node, time)) →
-        (getD starts node 0 < length (pairsIn (take (count * 2) table)))
-        × (pairAt (pairsIn (take (count * 2) table)) (getD starts node 0) .1 ≤ time)
-    go i = pick (decLt (i .0) (getD starts node 0))
-      where
-        pick : Dec (i .0 < getD starts node 0) →
-            (getD starts node 0 < length (pairsIn (take (count * 2) table)))
-            × (pairAt (pairsIn (take (count * 2) table)) (getD starts node 0) .1 ≤ time)
-        pick (yes h) = absurd (omega (arith, b .low .before (i .0) h, ap keyOf (i .2)))
-        pick (no h) =
-            let s = lists-sorted (w .lists) in
-            let some : getD starts node 0 < length (pairsIn (take (count * 2) table)) = omega (arith, i .1) in (
-              some,
-              omega (
-                arith,
-                sorted-le s (getD starts node 0) (i .0) (omega arith) (i .1),
-                b .low .after (getD starts node 0) (omega arith) some,
-                ap keyOf (i .2),
-                s .small (getD starts node 0),
-                w .lists .times-small (node, time) (w .here),
-              ),
-            )
 
 -- the search for a listed pair's key ends at the pair's place, whatever list of pairs the table is taken for
 pub place-found : {table : List ℕ} {count node time : ℕ} (r : ℕ) → Findable table count node time →

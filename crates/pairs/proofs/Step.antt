@@ -69,14 +69,16 @@ module _ {file : List ℕ} {shape : Shape} {arrivals : List ℕ} (given : Given 
 
   -- what is asked for is asked for by an output, or by a pair that is known
   pub stepped : (l : List (ℕ × ℕ)) (f t : ℕ) → AskedAt file shape arrivals target f t →
-      ((n s : ℕ) → f < n → AskedAt file shape arrivals target n s → List·Memᴰ (n, s) l) → AsksAll l file shape target f t
+      ((n s : ℕ) → f < n → AskedAt file shape arrivals target n s → List·Memᴰ
+      (n, s) l) → AsksAll l file shape target f t
   stepped l f t (output m u) h = byOutput (record { same = refl; output = m })
   stepped l f t (driver {f = n} {s = s} {g = g} {p = p} m i a u) h =
       let w = node-only file shape (n, g) m in
       let at : n ≡ shape .inputs + w .0 = ap (λ (x : ℕ × Cell). x .0) (w .2) in
       let cell : g ≡ cellAt file shape (w .0) = ap (λ (x : ℕ × Cell). x .1) (w .2) in
       let v = pin-only file shape (w .0) p (subst (λ (x : Cell). List·Memᴰ p (x .pins)) cell i) in
-      let below = fits-below (n, g) (all-at gateFits (nodes net) (valid-gates net (given .holds .valid)) (n, g) m) p i in
+      let below = fits-below (n, g)
+      (all-at gateFits (nodes net) (valid-gates net (given .holds .valid)) (n, g) m) p i in
       let k : firstAt file shape (w .0) + (v .0 - firstAt file shape (w .0)) ≡ v .0 = omega (arith, v .1) in
       let drives : p .driver ≡ driverAt file shape (v .0) =
       ap (λ (x : Pin). x .driver) (v .3) ∙ pin-driver file shape (v .0)
@@ -85,7 +87,8 @@ module _ {file : List ℕ} {shape : Shape} {arrivals : List ℕ} (given : Given 
       ap (λ (x : Pin). x .delay) (v .3) ∙ pin-delay file shape (v .0)
       in
       let c =
-      pair-facts (net .inputs) (topOf (circuitAt file shape arrivals)) (net .outputs) target (p .driver) (s - p .delay) u
+      pair-facts (net .inputs) (topOf (circuitAt file shape arrivals)) (net .outputs) target (p .driver)
+      (s - p .delay) u
       in
       let back : s ≡ s - p .delay + delayAt file shape (v .0) = omega (arith, c .1) in
       byPin (w .0, delayAt file shape (v .0))
@@ -108,7 +111,8 @@ module _ {file : List ℕ} {shape : Shape} {arrivals : List ℕ} (given : Given 
 
   -- and back
   pub asked-of : (l : List (ℕ × ℕ)) (f t : ℕ) → AsksAll l file shape target f t →
-      ((x : ℕ × ℕ) → List·Memᴰ x l → AskedAt file shape arrivals target (x .0) (x .1)) → IsPairAt file shape arrivals target f t →
+      ((x : ℕ × ℕ) → List·Memᴰ x l → AskedAt file shape arrivals target (x .0)
+      (x .1)) → IsPairAt file shape arrivals target f t →
       AskedAt file shape arrivals target f t
   asked-of l f t (byOutput u) h i =
       subst (λ (x : ℕ). AskedAt file shape arrivals target f x) (sym (u .same))

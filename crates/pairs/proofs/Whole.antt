@@ -113,7 +113,8 @@ held-unique l room t u TooMany TooMany h k = (h .1 ∙ sym (k .1), refl)
 -- a table that begins with the pairs of an accepted file's target lists them: what `place` asks
 pub lists-for : {file : List ℕ} {shape : Shape} {arrivals : List ℕ} (target : ℕ) (table : List ℕ) (n : ℕ) →
     Given file shape arrivals →
-    n ≡ length (pairsAt file shape arrivals target) → take (n * 2) table ≡ flatPairs (pairsAt file shape arrivals target) →
+    n ≡ length (pairsAt file shape arrivals target) → take (n * 2) table ≡ flatPairs
+    (pairsAt file shape arrivals target) →
     Lists table n (pairsAt file shape arrivals target)
 unfolding pairsFor
 lists-for {file} {shape} {arrivals} target table n given e f =

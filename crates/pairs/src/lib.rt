@@ -158,9 +158,16 @@ pub fn starts(table: &[u32], count: usize, nodes: usize, starts: &mut [usize])
     }
 }
 
-// The place of a pair among the first `count` pairs of a table: where it stands if its node's times follow one on the
-// other from the first, or else by halves.
-pub fn place(table: &[u32], count: usize, starts: &[usize], node: usize, time: usize) -> usize
+// The place of a pair among the first `count` pairs of a table: where it is guessed, if it stands there, or else by
+// halves.
+pub fn place(
+    table: &[u32],
+    count: usize,
+    starts: &[usize],
+    node: usize,
+    time: usize,
+    guess: usize,
+) -> usize
     requires { ⌜ Findable (now table) count node time
         × Bounds (pairsIn (take (count * 2) (now table))) (now starts) node ⌝ }
     ensures { λ r. ⌜ ((pairs : List (ℕ × ℕ)) → Lists (now (table .entry)) count pairs →
@@ -169,10 +176,11 @@ pub fn place(table: &[u32], count: usize, starts: &[usize], node: usize, time: u
     let pairs = &table[..count * 2];
     let low = starts[node];
     let high = starts[node + 1];
-    let near = low + (time - time_at(pairs, low));
-    if near < high {
-        if time_at(pairs, near) == time {
-            return near;
+    if low <= guess {
+        if guess < high {
+            if time_at(pairs, guess) == time {
+                return guess;
+            }
         }
     }
     pairs_before(pairs, node * 4294967296 + time, low, high)
@@ -204,8 +212,8 @@ fn pin_span(done: &[u32], delay: usize, begin: usize, end: usize, span: Span) ->
     span
 }
 
-// Mark what a pin of this node with this delay asks for, from 1 to the top: the node's pairs, which stand from `first`
-// to before `last`, from the one after the delay to the one at the top and the delay.
+// Mark what a pin of this node with this delay asks for, from 1 to the top: of the node's pairs, which stand from
+// `first` to before `last`, those from the one after the delay to the one at the top and the delay.
 fn mark_pin(
     done: &[u32],
     first: usize,
@@ -327,7 +335,8 @@ fn begin_at(done: &[u32], ends: &[u32; 449], number: usize) -> usize
     done.len() / 2 - lent::widen(ends[number])
 }
 
-// Mark what is asked of f, from 1 to a top: by the outputs, and by the pins that it drives.
+// Mark what is asked of f, from 1 to a top: by the outputs, and by the pins that it drives. `ends` says of each gate
+// above f how many pairs stand from its first on.
 fn mark_asked(
     done: &[u32],
     file: &[u8],
@@ -404,7 +413,8 @@ fn put_pair(table: &mut [u32], k: usize, node: usize, time: usize)
 
 // Fill the table from its end: what stands from `at` on are the pairs found, and what is still to be found of node f is
 // marked, as `bits` in this word and in the words from `low` to before it. The next pair is f at the highest bit; where
-// no mark is left, the node below f follows. No time is asked for that is above the target.
+// no mark is left, the node below f follows. `ends` has, for each gate above f, how many pairs stand from its first on,
+// which no pair more alters. Nothing is asked for above the target.
 fn fill(
     file: &[u8],
     shape: Shape,
@@ -472,8 +482,8 @@ fn fill(
     Filled::From(at)
 }
 
-// The same with marks for all times up to the target, or up to the largest top: few where the target is small, since
-// each word is zeroed.
+// Fill the table, with words for the marks of all times up to the target and the largest top: few where the target is
+// small, since all are zeroed.
 fn find(
     file: &[u8],
     shape: Shape,

@@ -73,7 +73,8 @@ usable shape vector valuesRoom timesRoom g e =
     }
 
 -- the evaluation of a file's netlist, as they say
-pub by-checks : {given : Checked} (file : List ℕ) (shape : Shape) (arrivals vector : List ℕ) (valuesRoom timesRoom : ℕ) →
+pub by-checks : {given : Checked} (file : List ℕ) (shape : Shape) (arrivals vector : List ℕ)
+    (valuesRoom timesRoom : ℕ) →
     given ≡ checked (givenRows (shape .inputs) (shape .inputs + shape .gates) vector valuesRoom timesRoom) →
     evaluationOf (circuitAt file shape arrivals) vector valuesRoom timesRoom
     ≡ unlessRefused given (refused valuesRoom timesRoom)
@@ -90,17 +91,20 @@ by-checks file shape arrivals vector valuesRoom timesRoom g =
 
 module _ (file arrivals vector : List ℕ) (valuesRoom timesRoom : ℕ) where
   pub of-accepted : (shape : Shape) → openCircuitOf file arrivals ≡ Accepted shape →
-      evaluation file arrivals vector valuesRoom timesRoom ≡ evaluationOf (circuitAt file shape arrivals) vector valuesRoom timesRoom
+      evaluation file arrivals vector valuesRoom timesRoom ≡ evaluationOf
+      (circuitAt file shape arrivals) vector valuesRoom timesRoom
   unfolding evaluation evaluationOf
   of-accepted shape e =
-      call-accepted file arrivals (λ circuit. evaluationRows circuit vector valuesRoom timesRoom) (refused valuesRoom timesRoom)
+      call-accepted file arrivals (λ circuit. evaluationRows circuit vector valuesRoom timesRoom)
+      (refused valuesRoom timesRoom)
       (λ circuit. settled circuit vector valuesRoom timesRoom) e
 
   pub of-rejected : (refusal : Refusal) → openCircuitOf file arrivals ≡ Rejected refusal →
       evaluation file arrivals vector valuesRoom timesRoom ≡ refused valuesRoom timesRoom refusal
   unfolding evaluation
   of-rejected refusal e =
-      call-rejected file arrivals (λ circuit. evaluationRows circuit vector valuesRoom timesRoom) (refused valuesRoom timesRoom)
+      call-rejected file arrivals (λ circuit. evaluationRows circuit vector valuesRoom timesRoom)
+      (refused valuesRoom timesRoom)
       (λ circuit. settled circuit vector valuesRoom timesRoom) e
 
 -- ---- what an answer says of the rows 8 and 9

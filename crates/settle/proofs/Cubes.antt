@@ -1,6 +1,6 @@
--- A gate settles when its last pin is ready, or earlier when a controlling cube that holds is ready: one argument for all
--- kinds, since the pins of a cube are pins of the gate, so that no cube is ready after the last pin. Laws: cube-pin,
--- settles-cubes, settles-last, last-within. Assumes nothing.
+-- A gate settles when its last pin is ready, or earlier when a controlling cube that holds is ready: one argument for
+-- all kinds, since the pins of a cube are pins of the gate, so that no cube is ready after the last pin. Laws:
+-- cube-pin, settles-cubes, settles-last, last-within. Assumes nothing.
 use mathlib.Core.Path.{_≡_, refl, sym, ap, _∙_, subst}
 use mathlib.Core.Bool.{Bool, true, false, cond}
 use mathlib.Core.List.{List, [], _∷_, map, List·Memᴰ, List·Memᴰ·head, List·Memᴰ·tail, List·Memᴰ·not-nil}
@@ -45,7 +45,8 @@ cube-pin {P} Mux (select ∷ a ∷ b ∷ ps) cube m l i = go m
     b-pin : List·Memᴰ b (select ∷ a ∷ b ∷ ps)
     b-pin = List·Memᴰ·tail (List·Memᴰ·tail (List·Memᴰ·head refl))
 
-    two : (p q : P) (u v : Bool) → List·Memᴰ p (select ∷ a ∷ b ∷ ps) → List·Memᴰ q (select ∷ a ∷ b ∷ ps) → cube ≡ (p, u) ∷ (q, v) ∷ [] →
+    two : (p q : P) (u v : Bool) → List·Memᴰ p (select ∷ a ∷ b ∷ ps) → List·Memᴰ q (select ∷ a ∷ b ∷ ps) → cube ≡
+        (p, u) ∷ (q, v) ∷ [] →
         List·Memᴰ (l .0) (select ∷ a ∷ b ∷ ps)
     two p q u v n o e = two-pins n o (subst (λ d. List·Memᴰ l d) e i)
 

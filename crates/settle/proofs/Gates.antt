@@ -288,7 +288,8 @@ module _ {file : List ℕ} {shape : Shape} {values₀ times₀ : List ℕ} (h : 
                 (q ∙ ap (λ (x : Signal). bit (x .value)) is
                 ∙ sym (List·getD-map bit (valuesOf (netlistAt file shape) vector) (shape .inputs + number) false)));
             times-done =
-                subst (Filled (allTimes file shape arrivals vector) times₀ (set times (shape .inputs + number) (signal .at))) n
+                subst (Filled (allTimes file shape arrivals vector) times₀
+                (set times (shape .inputs + number) (signal .at))) n
                 (filled-more (g .times-done) (signal .at) 0 (omega arith) (ap (λ (x : Signal). x .at) is));
           }
 

@@ -1,5 +1,5 @@
--- The whole call: the inputs' nodes and the gates', the largest time of the outputs, and the slices with zeros behind the nodes.
--- Assumes nothing.
+-- The whole call: the inputs' nodes and the gates', the largest time of the outputs, and the slices with zeros behind
+-- the nodes. Assumes nothing.
 use mathlib.Core.Path.{_≡_, refl, sym, ap, ap₂, _∙_, subst}
 use mathlib.Core.Bool.{Bool}
 use mathlib.Core.List.{List, _∷_, _++_, map}
@@ -46,8 +46,18 @@ module _ {shape : Shape} {arrivals vector values₀ times₀ values times : List
       record {
         inputs = begins ∙ u .small ∙ ap (λ (l : List ℕ). map bit (bits l)) (sym begins);
         arrived = subst (Arrived shape) (sym (copied-front t (shape .inputs) (a .long))) a;
-        values-room = omega (arith, copied-length v (shape .inputs) (u .long) (omega (arith, u .values-room)), u .values-room);
-        times-room = omega (arith, copied-length t (shape .inputs) (a .long) (omega (arith, u .times-room)), u .times-room);
+        values-room = omega (
+          arith,
+          copied-length v (shape .inputs) (u .long)
+              (omega (arith, u .values-room)),
+          u .values-room,
+        );
+        times-room = omega (
+          arith,
+          copied-length t (shape .inputs) (a .long)
+              (omega (arith, u .times-room)),
+          u .times-room,
+        );
       }
 
   -- the gates behind these inputs are all nodes under this vector
@@ -136,16 +146,17 @@ zeroed whole before now after n room w r l e f =
 pub settled-is : {file : List ℕ} {shape : Shape} {arrivals vector values₀ times₀ values times : List ℕ} →
     Given file shape arrivals → Usable shape vector (length values₀) (length times₀) →
     Done file shape arrivals (bits vector) values₀ times₀ values times →
-    (time : ℕ) (valuesAfter timesAfter : List ℕ) →
+    (time : ℕ) (valuesEnd timesEnd : List ℕ) →
     time ≡ last (λ node. getD times node 0) (netlistAt file shape .outputs) →
-    valuesAfter
+    valuesEnd
     ≡ take (shape .inputs + shape .gates) values ++ replicate (length values - (shape .inputs + shape .gates)) 0 →
-    timesAfter
+    timesEnd
     ≡ take (shape .inputs + shape .gates) times ++ replicate (length times - (shape .inputs + shape .gates)) 0 →
-    Meets (settled (circuitAt file shape arrivals) vector (length values₀) (length times₀)) (At time) valuesAfter timesAfter
+    Meets (settled (circuitAt file shape arrivals) vector (length values₀) (length times₀))
+    (At time) valuesEnd timesEnd
 unfolding settled
-settled-is {file} {shape} {arrivals} {vector} {values₀} {times₀} {values} {times} given u d time valuesAfter timesAfter t v w
-    =
+settled-is {file} {shape} {arrivals} {vector} {values₀} {times₀} {values} {times} given u d time valuesEnd timesEnd t v
+    w =
     let long : length (bits vector) ≡ shape .inputs = length-map vector (λ byte. eqb byte 1) ∙ u .long in
     let v-long = all-values-length (given .holds) (given .arrived) (bits vector) long in
     let t-long = all-times-length (given .holds) (given .arrived) (bits vector) long in
@@ -157,11 +168,11 @@ settled-is {file} {shape} {arrivals} {vector} {values₀} {times₀} {values} {t
           ∙ ap (λ (l : List ℕ). last (λ node. getD l node 0) (netlistAt file shape .outputs)) (d .times-are)
           ∙ circuit-is (given .holds) arrivals (bits vector) (drop (shape .inputs + shape .gates) times₀) t-long);
       values-are =
-          zeroed (allValues file shape (bits vector)) values₀ values valuesAfter _ _ v-long refl (u .values-room)
+          zeroed (allValues file shape (bits vector)) values₀ values valuesEnd _ _ v-long refl (u .values-room)
           (d .values-are) v
           ∙ ap (λ (n : ℕ). allValues file shape (bits vector) ++ replicate (length values₀ - n) 0) nodes;
       times-are =
-          zeroed (allTimes file shape arrivals (bits vector)) times₀ times timesAfter _ _ t-long refl (u .times-room)
+          zeroed (allTimes file shape arrivals (bits vector)) times₀ times timesEnd _ _ t-long refl (u .times-room)
           (d .times-are) w
           ∙ ap (λ (n : ℕ). allTimes file shape arrivals (bits vector) ++ replicate (length times₀ - n) 0) nodes;
     }

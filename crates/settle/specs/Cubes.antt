@@ -1,5 +1,5 @@
--- When a gate is late, by its controlling cubes. Interface: all of it. That a gate settles so is a law (proofs/Argument),
--- and so is that a pair's clauses say it (certificate/proofs/Says).
+-- When a gate is late, by its controlling cubes. Interface: all of it. That a gate settles so is a law
+-- (proofs/Argument), and so is that a pair's clauses say it (certificate/proofs/Says).
 use mathlib.Core.Bool.{Bool, not, _&&_, _||_, cond}
 use mathlib.Core.List.{List, [], _∷_}
 use Prim.Native.Nat.{ℕ, min}

@@ -116,8 +116,8 @@ orders =
     }
     ∷ []
 
--- 16: no arrival, one too few and one too many; the first of two that are over 9,999, and the last; behind 7 and before 8
--- and 9
+-- 16: no arrival, one too few and one too many; the first of two that are over 9,999, and the last; behind 7 and
+-- before 8 and 9
 unfoldable pub lateOrders : List Case
 lateOrders =
     refusesWith circuitA [] (0 ∷ 0 ∷ []) 5 5 (Arrival 2)
@@ -139,7 +139,8 @@ pub edges-hold :
     evaluation (c .file) (c .arrivals) (c .vector) (length (c .expected .values)) (length (c .expected .times))) edges
     ≡ map (λ (c : Case). c .expected) edges
 unfolding
-    edges everyKind orders lateCases lateOrders written oneGate circuitA netlistRows firstWrong countWrong backWrong pinsBefore gateWrong
+    edges everyKind orders lateCases lateOrders written oneGate circuitA netlistRows firstWrong countWrong backWrong
+    pinsBefore gateWrong
     gatePlace sumWrong pinsAt pinWrong pinPlace outputWrong outputPlace kinds kindRow tableBytes shapeOf gateAt pinAt
     pinsFrom cellOf cellAt netlistAt gateValue settles grow valuesOf timesOf circuitTime evaluation givenRows settled
     arrivalRows

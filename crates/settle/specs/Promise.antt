@@ -70,5 +70,6 @@ evaluationOf circuit vector valuesRoom timesRoom =
 -- of any bytes, any arrivals and any vector, with room for so many values and times
 unfoldable pub evaluation : List ℕ → List ℕ → List ℕ → ℕ → ℕ → Evaluation
 evaluation file arrivals vector valuesRoom timesRoom =
-    callOver file arrivals (λ circuit. evaluationRows circuit vector valuesRoom timesRoom) (refused valuesRoom timesRoom)
+    callOver file arrivals (λ circuit. evaluationRows circuit vector valuesRoom timesRoom)
+    (refused valuesRoom timesRoom)
     (λ circuit. settled circuit vector valuesRoom timesRoom)

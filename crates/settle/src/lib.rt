@@ -352,8 +352,8 @@ fn refuse(refusal: Refusal, values: &mut [u8], times: &mut [u32]) -> Settled
     Settled::Refused(refusal)
 }
 
-// The evaluation of a file that is accepted with this shape and these arrivals: 8, then 9 for values, then for times, or
-// all values and times. For callers that have opened the file.
+// The evaluation of a file that is accepted with this shape and these arrivals: 8, then 9 for values, then for times,
+// or all values and times. For callers that have opened the file.
 pub fn evaluate_accepted(
     file: &[u8],
     shape: Shape,
@@ -389,7 +389,7 @@ pub fn evaluate(
         (length (now (values .entry))) (length (now (times .entry)))) r
         (now (values .exit)) (now (times .exit)) ⌝ }
 {
-    let opened = netlist::open_circuit(file, arrivals);
+    let opened = netlist::arrived(netlist::open(file), arrivals);
     match opened {
         Opened::Accepted(shape) => evaluate_accepted(file, shape, arrivals, vector, values, times),
         Opened::Refused(refusal) => refuse(refusal, values, times),

@@ -2,10 +2,12 @@
 // netlist to the end. Prints `p cnf V C`, then every clause as a line; or `refused number place`, with the places of
 // the netlist by itself. Of fewer than 4 bytes it says `refused 1` and how many there were. It has room for a netlist
 // of 65,532 bytes, and of a longer one says `refused 9 65533`; for 8,192 pairs; and for 16,384 numbers (rules W2 and
-// W3). What matters is formula::build's contract. Assumes nothing of its own.
+// W3). Every input arrives at 0. What matters is formula::build's contract. Assumes nothing of its own.
 use formula::Built;
 use formula::Counts;
+use netlist::Opened;
 use refusal::Refusal;
+ghost use Prim.Native.Nat.{_≤_};
 
 // One number: a 0 ends its line, after any other comes a space.
 fn print_entry(number: i32) {
@@ -39,9 +41,21 @@ fn print_formula(counts: Counts, formula: &[i32]) {
     print_entries(&formula[..numbers]);
 }
 
-// The answer for a netlist and a target.
+// How many inputs the netlist has; none where it is refused.
+fn input_count(file: &[u8]) -> usize
+    ensures { λ r. ⌜ r ≤ 64 ⌝ }
+{
+    match netlist::open(file) {
+        Opened::Accepted(shape) => shape.inputs,
+        Opened::Refused(_) => 0,
+    }
+}
+
+// The answer for a netlist and a target, with an arrival of 0 for each input.
 fn show(file: &[u8], target: u32, pairs: &mut [u32], formula: &mut [i32]) {
-    match formula::build(file, target, pairs, formula) {
+    let zeros = [0u32; 64];
+    let inputs = input_count(file);
+    match formula::build(file, &zeros[..inputs], target, pairs, formula) {
         Built::Formula(counts) => print_formula(counts, formula),
         Built::Refused(refusal) => console::print_refused(refusal),
     }

@@ -1,8 +1,9 @@
-// Prints values and settling times of a circuit under a vector. Standard input: the vector's length (4 bytes, little
-// endian), the vector, one byte an input, then the netlist to the end. Prints `settled T`, then a line `node value
-// time` for each node; or `refused number place`. An input of fewer than 4 bytes is `refused 1` and its length; a
-// vector that is cut short leaves no netlist, `refused 1 0`. Its room: an input of 65,536 bytes (a longer one:
-// `refused 9 65537`). What matters is settle::evaluate's contract. Assumes nothing of its own.
+// Prints values and settling times of a circuit under a vector. Standard input is three lists, each behind its length
+// (4 bytes, little endian): the vector, one byte an input; the netlist; the arrivals, 4 bytes an input, their length in
+// numbers. A list that is cut short is read as far as it goes, and what stands behind the last counts for nothing.
+// Prints `settled T`, then a line `node value time` for each node; or `refused number place`. An input of fewer than 4
+// bytes is `refused 1` and its length. Its room: an input of 65,536 bytes (a longer one: `refused 9 65537`). What
+// matters is settle::evaluate's contract. Assumes nothing of its own.
 use netlist::Opened;
 use refusal::Refusal;
 use settle::Settled;
@@ -36,9 +37,9 @@ fn print_nodes(count: usize, values: &[u8], times: &[u32]) {
     }
 }
 
-// The answer for a netlist and a vector.
-fn show(file: &[u8], vector: &[u8], values: &mut [u8], times: &mut [u32]) {
-    match settle::evaluate(file, vector, values, times) {
+// The answer for a netlist, its arrivals and a vector.
+fn show(file: &[u8], arrivals: &[u32], vector: &[u8], values: &mut [u8], times: &mut [u32]) {
+    match settle::evaluate(file, arrivals, vector, values, times) {
         Settled::At(time) => {
             console::print(b"settled");
             console::print_number(lent::widen(time));
@@ -49,15 +50,29 @@ fn show(file: &[u8], vector: &[u8], values: &mut [u8], times: &mut [u32]) {
     }
 }
 
+// The arrivals read, of which the 65th is one too many for any netlist.
+fn with_netlist(rest: &[u8], file: &[u8], vector: &[u8]) {
+    let mut arrivals = [0u32; 65];
+    let count = console::counted_of(rest, &mut arrivals);
+    let mut values = [0u8; 512];
+    let mut times = [0u32; 512];
+    show(file, &arrivals[..count], vector, &mut values, &mut times);
+}
+
+// What stands behind the vector: the netlist, then the arrivals.
+fn with_vector(rest: &[u8], vector: &[u8]) {
+    let start = console::least(4, rest.len());
+    let end = start + console::least(console::told_by(rest), rest.len() - start);
+    with_netlist(&rest[end..], &rest[start..end], vector);
+}
+
 // The input taken apart.
 fn answer(input: &[u8]) {
     if input.len() < 4 {
         return console::print_refused(Refusal::Short(input.len()));
     }
     let end = 4 + console::least(lent::four_bytes(input, 0), input.len() - 4);
-    let mut values = [0u8; 512];
-    let mut times = [0u32; 512];
-    show(&input[end..], &input[4..end], &mut values, &mut times);
+    with_vector(&input[end..], &input[4..end]);
 }
 
 fn main() {

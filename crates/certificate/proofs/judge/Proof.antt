@@ -1,15 +1,29 @@
 -- `certificate::judge` meets its contract: a refused file is the judgement's refusal, and of an accepted one the
 -- certificate decides; and the promise implies that an accepted delay is the largest settling time. Assumes nothing.
-use mathlib.Core.Path.{sym, _∙_}
+use mathlib.Core.Path.{_≡_, sym, _∙_}
 use borrow.Author.Needs.{needs}
-use Rattle.netlist.proofs.Calls.{accepted}
+use Rattle.netlist.specs.Open.{openCircuitOf}
+use Rattle.netlist.proofs.Calls.{accepted, opened-both}
 use Rattle.certificate.proofs.Granted.{judges-largest}
 use Rattle.certificate.proofs.Steps.{judges-unopened, judges-refused, judges-accepted}
 use Rattle.certificate.proofs.judge.Statement.{statement}
 use Rattle.certificate.proofs.judge.Tie as tie
 
-open-circuit-requires : tie.Need-open-circuit-requires
-open-circuit-requires c κs = search needs
+-- the start
+abbrev start : tie.After-arrived → tie.Start
+start c = c .before .before .before .before .before .before .before .before .before
+
+-- what the file and the arrivals are answered
+asked : (c : tie.After-arrived) →
+    c .arrived .result
+    ≡ openCircuitOf (start c .args .file .now) (start c .args .arrivals .now)
+asked c = opened-both _ _ (c .before .open .ensures) (c .arrived .ensures)
+
+open-requires : tie.Need-open-requires
+open-requires c κs = search needs
+
+arrived-requires : tie.Need-arrived-requires
+arrived-requires c κs = search needs
 
 enum-known-opened : tie.Need-enum-known-opened
 enum-known-opened c = search needs
@@ -23,7 +37,7 @@ enum-known-opened-2 c = search needs
 certify-requires : tie.Need-certify-requires
 certify-requires c κs =
     let told = c .before .before .before .before .before .before in
-    accepted _ _ (sym (told .before .before .open-circuit .ensures) ∙ told .opened2 .given .1)
+    accepted _ _ (sym (asked (told .before .before)) ∙ told .opened2 .given .1)
 
 enum-known-checked : tie.Need-enum-known-checked
 enum-known-checked c = search needs
@@ -54,7 +68,7 @@ returns c =
     let refusing = c .before .before .before .before .before .before .before .before .before in
     let told = refusing .before .before .before .before .before .before .before in
     let j =
-    judges-unopened (told .before .before .open-circuit .ensures) (told .opened .given .1) (refusing .refuse .ensures)
+    judges-unopened (asked (told .before .before)) (told .opened .given .1) (refusing .refuse .ensures)
     in
     (j, judges-largest j)
 
@@ -80,7 +94,7 @@ returns-2 c =
     let call = looked .before .before .before .before .before .before .before .before .before .before .before in
     let told = call .before .before .before .before .before .before .before in
     let j =
-    judges-refused (told .before .before .open-circuit .ensures) (told .opened2 .given .1) (call .certify .ensures)
+    judges-refused (asked (told .before .before)) (told .opened2 .given .1) (call .certify .ensures)
     (looked .checked .given .1) (refusing .refuse2 .ensures)
     in
     (j, judges-largest j)
@@ -105,7 +119,7 @@ returns-3 c =
     let call = c .before .before .before .before .before .before .before .before .before .before .before in
     let told = call .before .before .before .before .before .before .before in
     let j =
-    judges-accepted (told .before .before .open-circuit .ensures) (told .opened2 .given .1) (call .certify .ensures)
+    judges-accepted (asked (told .before .before)) (told .opened2 .given .1) (call .certify .ensures)
     (c .enum-told .given .1)
     in
     (j, judges-largest j)
@@ -114,7 +128,8 @@ pub judge-spec : {M : Type 1} → statement M
 judge-spec =
     tie.close
     (tie.spec
-    open-circuit-requires
+    open-requires
+    arrived-requires
     enum-known-opened
     refuse-requires
     enum-known-opened-2

@@ -7,6 +7,7 @@ use mir.Syntax.{w32}
 use mir.Val.{SFits, toZ, ofZ}
 use mir.ValLaws.{toZ-ofZ}
 use Rattle.lent.specs.Bytes.{fourBytes}
+use lib.IntN.{pos}
 use lib.ListN.{length}
 use native.Mathlib.Omega.{arith}
 use Prim.Native.Nat.{ℕ, _-_, _*_}
@@ -15,7 +16,8 @@ use Rattle.console.proofs.numbers_of.Statement.{statement}
 use Rattle.console.proofs.numbers_of.Tie as tie
 
 abbrev Inv-loop : tie.InvT-loop
-Inv-loop bytes numbers₀ k₀ numbers k = N.Reading (λ (j : ℕ). signedOf (fourBytes bytes (j * 4))) numbers₀ numbers k
+Inv-loop bytes numbers₀ k₀ numbers k =
+    N.Reading (pos 0) (λ (j : ℕ). signedOf (fourBytes bytes (j * 4))) numbers₀ numbers k
 
 abbrev μ-loop : tie.MeasureT-loop
 μ-loop bytes numbers₀ k₀ numbers k = length numbers₀ - k

@@ -1,18 +1,28 @@
--- `formula::build` meets its contract: what `open_circuit` answers decides the row. Assumes nothing.
-use mathlib.Core.Path.{refl, sym, _∙_}
+-- `formula::build` meets its contract: what `open` and `arrived` answer decides the row. Assumes nothing.
+use mathlib.Core.Path.{_≡_, refl, sym, _∙_}
 use borrow.Author.Needs.{needs}
 use lib.ListN.{length}
-use Rattle.netlist.proofs.Calls.{accepted}
+use Rattle.netlist.specs.Open.{openCircuitOf}
+use Rattle.netlist.proofs.Calls.{accepted, opened-both}
 use Rattle.formula.proofs.Rows.{of-accepted, of-rejected}
 use Rattle.formula.proofs.build.Statement.{statement}
 use Rattle.formula.proofs.build.Tie as tie
 
 -- the start
-abbrev start : tie.After-open-circuit → tie.Start
-start c = c .before .before .before .before
+abbrev start : tie.After-arrived → tie.Start
+start c = c .before .before .before .before .before
 
-open-circuit-requires : tie.Need-open-circuit-requires
-open-circuit-requires c κs = search needs
+-- what the file and the arrivals are answered
+asked : (c : tie.After-arrived) →
+    c .arrived .result
+    ≡ openCircuitOf (start c .args .file .now) (start c .args .arrivals .now)
+asked c = opened-both _ _ (c .before .open .ensures) (c .arrived .ensures)
+
+open-requires : tie.Need-open-requires
+open-requires c κs = search needs
+
+arrived-requires : tie.Need-arrived-requires
+arrived-requires c κs = search needs
 
 enum-known-opened : tie.Need-enum-known-opened
 enum-known-opened c = search needs
@@ -20,7 +30,7 @@ enum-known-opened c = search needs
 build-from-requires : tie.Need-build-from-requires
 build-from-requires c κs =
     let known = c .before .before .before in
-    accepted _ _ (sym (known .before .before .open-circuit .ensures) ∙ known .opened .given .1)
+    accepted _ _ (sym (asked (known .before .before)) ∙ known .opened .given .1)
 
 same-length : tie.Need-same-length
 same-length c = search needs
@@ -35,7 +45,7 @@ returns c =
     let after = known .before .before in
     let args = start after .args in
     rw (of-accepted (args .file .now) (args .arrivals .now) (args .target) (length (args .pairs .now))
-    (length (args .formula .now)) _ (sym (after .open-circuit .ensures) ∙ known .opened .given .1))
+    (length (args .formula .now)) _ (sym (asked after) ∙ known .opened .given .1))
     (built .build-from .ensures)
 
 enum-known-opened-2 : tie.Need-enum-known-opened-2
@@ -60,14 +70,15 @@ returns-2 c =
     let after = known .before .before in
     let args = start after .args in
     rw (of-rejected (args .file .now) (args .arrivals .now) (args .target) (length (args .pairs .now))
-    (length (args .formula .now)) _ (sym (after .open-circuit .ensures) ∙ known .opened2 .given .1))
+    (length (args .formula .now)) _ (sym (asked after) ∙ known .opened2 .given .1))
     (record { answer-is = refl; pairs-are = zeroed .zero-u32 .ensures; formula-is = c .before .zero-i32 .ensures })
 
 pub build-spec : {M : Type 1} → statement M
 build-spec =
     tie.close
     (tie.spec
-    open-circuit-requires
+    open-requires
+    arrived-requires
     enum-known-opened
     build-from-requires
     same-length

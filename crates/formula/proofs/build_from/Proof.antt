@@ -64,7 +64,8 @@ returns c =
     let args = start (topped table) .args in
     meets-as (args .file .now) (args .shape) (length (args .formula .now))
     (topped-arrivals (start (topped table) .pre) (topped table .tops2 .ensures)) (target table .widen .ensures .0)
-    (held-length _ _ _ _ _ (table .table .ensures) (found .listed .given .1)) (c .before .before .before .write .ensures)
+    (held-length _ _ _ _ _ (table .table .ensures) (found .listed .given .1))
+    (c .before .before .before .write .ensures)
 
 enum-told : tie.Need-enum-told
 enum-told c = search needs

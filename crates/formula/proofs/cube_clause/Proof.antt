@@ -1,5 +1,5 @@
--- `formula::cube_clause` meets its contract: a driver that is late outright leaves the clause out; else six runs, one after
--- the other. Assumes nothing.
+-- `formula::cube_clause` meets its contract: a driver that is late outright leaves the clause out; else six runs, one
+-- after the other. Assumes nothing.
 use mathlib.Core.Bool.{_||_}
 use mathlib.Core.Path.{refl}
 use native.Mathlib.Omega.{arith}

@@ -44,7 +44,8 @@ returns c =
       rw (kind .kind .given .1)
           (emits-as gateMost (emits-then (late .late-clause .ensures) (c .before .put-shares .ensures))
           (ap₂ (λ (x y : List Token). x ++ y) (late-drivers (read .read-asked .ensures) (s .args .pair) (s .pre .3))
-          (control-read (read .read-asked .ensures) (kind .kind .given .0 .0) (kind .kind .given .0 .1 .0) (s .args .pair)))
+          (control-read (read .read-asked .ensures) (kind .kind .given .0 .0) (kind .kind .given .0 .1 .0)
+          (s .args .pair)))
           (omega (arith, s .pre .2 .few))),
       read .read-asked .ensures .long,
     )

@@ -25,16 +25,18 @@ add-moment-at : tie.Need-add-moment-at Inv-loop μ-loop
 add-moment-at c = search needs
 
 moment-at-requires : tie.Need-moment-at-requires Inv-loop μ-loop
-moment-at-requires c κs =
-    let pre = start (c .before) .pre in
-    (pre .0, omega (arith, pre .2 .within))
+moment-at-requires c κs = search needs
+
+guess-at-requires : tie.Need-guess-at-requires Inv-loop μ-loop
+guess-at-requires c κs = search needs
 
 late-code-requires : tie.Need-late-code-requires Inv-loop μ-loop
 late-code-requires c κs =
-    let loop = c .before .before in
+    let asked = c .before .before in
+    let loop = asked .before .before in
     let pre = start loop .pre in
-    let asked = c .moment-at .ensures in
-    (pre .1, asks-read (loop .loop .i) (pre .2) (c .before .loop-test .taken) (asked .0) (asked .1))
+    let read = asked .moment-at .ensures in
+    (pre .1, asks-read (loop .loop .i) (pre .2) (asked .before .loop-test .taken) (read .0) (read .1))
 
 store-requires : tie.Need-store-requires Inv-loop μ-loop
 store-requires c κs = search needs
@@ -48,7 +50,7 @@ loop-less c = search needs
 loop-again : tie.Need-loop-again Inv-loop μ-loop
 loop-again c =
     let late = c .before .before .before in
-    let asked = late .before in
+    let asked = late .before .before .before in
     let loop = asked .before .before .loop in
     let pre = start (asked .before .before) .pre in
     let test = asked .before .loop-test .taken in (
@@ -72,6 +74,7 @@ read-asked-spec =
     loop-holds
     add-moment-at
     moment-at-requires
+    guess-at-requires
     late-code-requires
     store-requires
     add-i

@@ -38,11 +38,4 @@ returns c =
 pub simple-clauses-spec : {M : Type 1} → statement M
 simple-clauses-spec =
     tie.close
-    (tie.spec
-    add-own
-    put-shares-requires
-    put-shares-requires-2
-    put-node-requires
-    put-end-requires
-    same-length
-    returns)
+    (tie.spec add-own put-shares-requires put-shares-requires-2 put-node-requires put-end-requires same-length returns)

@@ -37,7 +37,8 @@ emit-requires c κs =
     let pre = c .before .before .before .before .before .before .before .pre in
     let ready = lent-ready (args .file .now) (args .shape) (take (args .shape .inputs) (args .tops .now)) (args .target)
     (take (args .shape .inputs + args .shape .gates) (args .tops .now)) (take (args .count * 2) (args .pairs .now))
-    (pre .1 .is) (front (args .file .now) (args .shape) (take (args .shape .inputs) (args .tops .now)) (args .target) (args .pairs .now) (args .count) (pre .2))
+    (pre .1 .is) (front (args .file .now) (args .shape) (take (args .shape .inputs) (args .tops .now)) (args .target)
+    (args .pairs .now) (args .count) (pre .2))
     (pre .0) (omega (arith, pre .2 .0, pre .2 .1)) in
     (pre .0 .holds, ready .0, ready .1, ready .2)
 
@@ -62,11 +63,13 @@ returns c =
     .before .before .before .before .args in
     let pre = c .before .before .before .before .before .before .before .before .before .before .before .before .before
     .before .before .before .before .pre in
-    wrote-none (args .file .now) (args .shape) (take (args .shape .inputs) (args .tops .now)) (args .target) (args .pairs .now) (args .count) (pre .2)
+    wrote-none (args .file .now) (args .shape) (take (args .shape .inputs) (args .tops .now)) (args .target)
+    (args .pairs .now) (args .count) (pre .2)
     (args .formula .now) _ (emit .result)
     (lent-numbers (args .file .now) (args .shape) (take (args .shape .inputs) (args .tops .now)) (args .target)
     (take (args .shape .inputs + args .shape .gates) (args .tops .now)) (take (args .count * 2) (args .pairs .now))
-    (pre .1 .is) (front (args .file .now) (args .shape) (take (args .shape .inputs) (args .tops .now)) (args .target) (args .pairs .now) (args .count) (pre .2))
+    (pre .1 .is) (front (args .file .now) (args .shape) (take (args .shape .inputs) (args .tops .now)) (args .target)
+    (args .pairs .now) (args .count) (pre .2))
     (emit .ensures)) (emits-length (emit .ensures)) _ _
     (if1 .taken) (zero-u32 .ensures) (c .before .zero-i32 .ensures)
 
@@ -90,11 +93,13 @@ returns-2 c =
     .args in
     let pre = c .before .before .before .before .before .before .before .before .before .before .before .before .before
     .pre in
-    wrote-all (args .file .now) (args .shape) (take (args .shape .inputs) (args .tops .now)) (args .target) (args .pairs .now) (args .count) (pre .2)
+    wrote-all (args .file .now) (args .shape) (take (args .shape .inputs) (args .tops .now)) (args .target)
+    (args .pairs .now) (args .count) (pre .2)
     (args .formula .now) _ (emit .result)
     (lent-numbers (args .file .now) (args .shape) (take (args .shape .inputs) (args .tops .now)) (args .target)
     (take (args .shape .inputs + args .shape .gates) (args .tops .now)) (take (args .count * 2) (args .pairs .now))
-    (pre .1 .is) (front (args .file .now) (args .shape) (take (args .shape .inputs) (args .tops .now)) (args .target) (args .pairs .now) (args .count) (pre .2))
+    (pre .1 .is) (front (args .file .now) (args .shape) (take (args .shape .inputs) (args .tops .now)) (args .target)
+    (args .pairs .now) (args .count) (pre .2))
     (emit .ensures)) (emits-length (emit .ensures)) _
     (if1 .left) (c .before .zero-rest-i32 .ensures)
 

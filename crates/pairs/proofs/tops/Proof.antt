@@ -48,8 +48,12 @@ slice-aggregate-last-ready c =
 
 last-ready-requires : tie.Need-last-ready-requires Inv-loop μ-loop
 last-ready-requires c κs =
-    let turn = c .before .before .before .before in
-    (start turn .pre .0 .holds, c .before .before .if1 .taken, length-take-le _ _ (omega (arith, turn .loop .inv .2 .long)))
+    let turn = c .before .before .before .before in (
+      start turn .pre .0 .holds,
+      c .before .before .if1 .taken,
+      length-take-le _ _
+          (omega (arith, turn .loop .inv .2 .long)),
+    )
 
 cast-tops : tie.Need-cast-tops Inv-loop μ-loop
 cast-tops c =

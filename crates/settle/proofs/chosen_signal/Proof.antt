@@ -18,7 +18,13 @@ returns : tie.Need-returns
 unfolding chosenSignal
 returns c =
     let agree = c .before .before in
-    rw (c .earlier .ensures, c .before .later2 .ensures, agree .before .before .before .later .ensures, agree .if1 .taken)
+    rw (
+      c .earlier .ensures,
+      c .before .later2 .ensures,
+      agree .before .before .before .later .ensures,
+      agree .if1
+          .taken,
+    )
     refl
 
 returns-2 : tie.Need-returns-2

@@ -1,16 +1,29 @@
--- `settle::evaluate` meets its contract: the checks of the file and the arrivals, and then the evaluation of an accepted
--- file.
--- Assumes nothing.
-use mathlib.Core.Path.{sym, _∙_}
+-- `settle::evaluate` meets its contract: the checks of the file and the arrivals, and then the evaluation of an
+-- accepted file. Assumes nothing.
+use mathlib.Core.Path.{_≡_, sym, _∙_}
 use borrow.Author.Needs.{needs}
 use lib.ListN.{length}
-use Rattle.netlist.proofs.Calls.{accepted}
+use Rattle.netlist.specs.Open.{openCircuitOf}
+use Rattle.netlist.proofs.Calls.{accepted, opened-both}
 use Rattle.settle.proofs.Checks as L
 use Rattle.settle.proofs.evaluate.Statement.{statement}
 use Rattle.settle.proofs.evaluate.Tie as tie
 
-open-circuit-requires : tie.Need-open-circuit-requires
-open-circuit-requires c κs = search needs
+-- the start
+abbrev start : tie.After-arrived → tie.Start
+start c = c .before .before .before .before .before .before .before
+
+-- what the file and the arrivals are answered
+asked : (c : tie.After-arrived) →
+    c .arrived .result
+    ≡ openCircuitOf (start c .args .file .now) (start c .args .arrivals .now)
+asked c = opened-both _ _ (c .before .open .ensures) (c .arrived .ensures)
+
+open-requires : tie.Need-open-requires
+open-requires c κs = search needs
+
+arrived-requires : tie.Need-arrived-requires
+arrived-requires c κs = search needs
 
 enum-known-opened : tie.Need-enum-known-opened
 enum-known-opened c = search needs
@@ -18,7 +31,7 @@ enum-known-opened c = search needs
 evaluate-accepted-requires : tie.Need-evaluate-accepted-requires
 evaluate-accepted-requires c κs =
     let known = c .before .before .before in
-    accepted _ _ (sym (known .before .before .open-circuit .ensures) ∙ known .opened .given .1)
+    accepted _ _ (sym (asked (known .before .before)) ∙ known .opened .given .1)
 
 enum-known-opened-2 : tie.Need-enum-known-opened-2
 enum-known-opened-2 c = search needs
@@ -37,10 +50,10 @@ returns c =
     let call = c .before .before .before .before in
     let known = call .before .before .before .before in
     let after = known .before .before in
-    let s = after .before .before .before .before .before .before in
+    let s = start after in
     rw
     (L.of-accepted (s .args .file .now) (s .args .arrivals .now) (s .args .vector .now) (length (s .args .values .now))
-    (length (s .args .times .now)) _ (sym (after .open-circuit .ensures) ∙ known .opened .given .1))
+    (length (s .args .times .now)) _ (sym (asked after) ∙ known .opened .given .1))
     (call .evaluate-accepted .ensures)
 
 same-length-3 : tie.Need-same-length-3
@@ -54,17 +67,18 @@ returns-2 c =
     let call = c .before .before .before .before in
     let known = call .before .before .before .before in
     let after = known .before .before in
-    let s = after .before .before .before .before .before .before in
+    let s = start after in
     rw
     (L.of-rejected (s .args .file .now) (s .args .arrivals .now) (s .args .vector .now) (length (s .args .values .now))
-    (length (s .args .times .now)) _ (sym (after .open-circuit .ensures) ∙ known .opened2 .given .1))
+    (length (s .args .times .now)) _ (sym (asked after) ∙ known .opened2 .given .1))
     (call .refuse .ensures)
 
 pub evaluate-spec : {M : Type 1} → statement M
 evaluate-spec =
     tie.close
     (tie.spec
-    open-circuit-requires
+    open-requires
+    arrived-requires
     enum-known-opened
     evaluate-accepted-requires
     enum-known-opened-2

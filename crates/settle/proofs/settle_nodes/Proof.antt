@@ -6,7 +6,8 @@ use Rattle.settle.proofs.settle_nodes.Statement.{statement}
 use Rattle.settle.proofs.settle_nodes.Tie as tie
 
 copy-u8-requires : tie.Need-copy-u8-requires
-copy-u8-requires c κs = let u = c .before .before .before .before .before .before .pre .1 in omega (arith, u .long, u .values-room)
+copy-u8-requires c κs = let u = c .before .before .before .before .before .before .pre .1 in omega
+    (arith, u .long, u .values-room)
 
 copy-u32-requires : tie.Need-copy-u32-requires
 copy-u32-requires c κs =

@@ -12,25 +12,25 @@ use Rattle.settle_cases.proofs.answer.Tie as tie
 -- the arrays after the call
 values-whole : (c : tie.After-evaluate) →
     let made = c .before .before .before .before in
-    let s = made .before .before .before in
-    length (c .evaluate .last .1 .1 .0 ++ drop (s .args .values-room) (made .patterned-values .result)) ≡ 608
+    let s = made .before .before .before .before in
+    length (c .evaluate .last .1 .1 .1 .0 ++ drop (s .args .values-room) (made .patterned-values .result)) ≡ 608
 values-whole c =
     let made = c .before .before .before .before in
-    let s = made .before .before .before in
-    length-front (made .patterned-values .result) (c .evaluate .last .1 .1 .0) (s .args .values-room)
-    (c .evaluate .kept .1 .1 .0)
+    let s = made .before .before .before .before in
+    length-front (made .patterned-values .result) (c .evaluate .last .1 .1 .1 .0) (s .args .values-room)
+    (c .evaluate .kept .1 .1 .1 .0)
     ∙ sym (made .patterned-values .ensures)
 
 times-whole : (c : tie.After-evaluate) →
     let made = c .before .before .before in
-    let s = made .before .before .before .before in
-    length (c .evaluate .last .1 .1 .1 .0 ++ drop (s .args .times-room) (made .patterned-times .result))
+    let s = made .before .before .before .before .before in
+    length (c .evaluate .last .1 .1 .1 .1 .0 ++ drop (s .args .times-room) (made .patterned-times .result))
     ≡ 608
 times-whole c =
     let made = c .before .before .before in
-    let s = made .before .before .before .before in
-    length-front (made .patterned-times .result) (c .evaluate .last .1 .1 .1 .0) (s .args .times-room)
-    (c .evaluate .kept .1 .1 .1 .0)
+    let s = made .before .before .before .before .before in
+    length-front (made .patterned-times .result) (c .evaluate .last .1 .1 .1 .1 .0) (s .args .times-room)
+    (c .evaluate .kept .1 .1 .1 .1 .0)
     ∙ sym (made .patterned-times .ensures)
 
 patterned-values-requires : tie.Need-patterned-values-requires
@@ -45,7 +45,7 @@ array-borrow-prefix-values c = search needs
 slice-aggregate-evaluate : tie.Need-slice-aggregate-evaluate
 slice-aggregate-evaluate c =
     let made = c .before .before in
-    let s = made .before .before .before in
+    let s = made .before .before .before .before in
     sym (length-take-le (s .args .values-room) (made .patterned-values .result) (omega arith))
 
 array-borrow-prefix-times : tie.Need-array-borrow-prefix-times
@@ -54,7 +54,7 @@ array-borrow-prefix-times c = search needs
 slice-aggregate-evaluate-2 : tie.Need-slice-aggregate-evaluate-2
 slice-aggregate-evaluate-2 c =
     let made = c .before .before in
-    let s = made .before .before .before .before in
+    let s = made .before .before .before .before .before in
     sym (length-take-le (s .args .times-room) (made .patterned-times .result) (omega arith))
 
 evaluate-requires : tie.Need-evaluate-requires

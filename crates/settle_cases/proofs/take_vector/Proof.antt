@@ -20,7 +20,8 @@ array-borrow-prefix-vector c = search needs
 
 slice-aggregate-read-vector : tie.Need-slice-aggregate-read-vector
 slice-aggregate-read-vector c =
-    sym (length-take-le (c .before .before .before .before .args .length) (c .before .buffer .result) (omega arith))
+    sym (length-take-le (c .before .before .before .before .before .args .length) (c .before .buffer .result)
+    (omega arith))
 
 read-vector-requires : tie.Need-read-vector-requires
 read-vector-requires c κs = search needs
