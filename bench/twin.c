@@ -559,19 +559,19 @@ static int32_t late(const lateness *l, const uint32_t *table, pin *p, uint32_t t
     return (int32_t)(nodes_of(l->n) + 1 + p->next);
 }
 
-/* The clause of two pins of a multiplexer's pair, the one at x and the other at y: late or not so, for both; left out
+/* The clause of a multiplexer's cube, one pin at x and another at y: each of them late, or not at its value; left out
  * where one surely is late. */
-static void write_cube(writer *w, int32_t variable, pin one, uint32_t x, pin other, uint32_t y)
+static void write_cube(writer *w, int32_t variable, const pin *one, uint32_t x, const pin *other, uint32_t y)
 {
-    if (one.late == IS_LATE || other.late == IS_LATE)
+    if (one->late == IS_LATE || other->late == IS_LATE)
         return;
     put(w, -variable);
-    if (one.late != NOT_LATE)
-        put(w, one.late);
-    put(w, node_is(one.driver, 1 - x));
-    if (other.late != NOT_LATE)
-        put(w, other.late);
-    put(w, node_is(other.driver, 1 - y));
+    if (one->late != NOT_LATE)
+        put(w, one->late);
+    put(w, node_is(one->driver, 1 - x));
+    if (other->late != NOT_LATE)
+        put(w, other->late);
+    put(w, node_is(other->driver, 1 - y));
     end_clause(w);
 }
 
@@ -589,9 +589,9 @@ static void write_pair(writer *w, gate it, const pin *pins, int32_t variable, in
     if (it.kind == MUX) {
         for (uint32_t s = 0; s < 2; s++)
             for (uint32_t value = 0; value < 2; value++)
-                write_cube(w, variable, pins[0], s, pins[1 + s], value);
+                write_cube(w, variable, pins, s, pins + 1 + s, value);
         for (uint32_t value = 0; value < 2; value++)
-            write_cube(w, variable, pins[1], value, pins[2], value);
+            write_cube(w, variable, pins + 1, value, pins + 2, value);
     }
     if (!is_simple(it.kind))
         return;

@@ -4,8 +4,7 @@ circuits, arrivals, vectors and damaged files.
 Settling is simulated as waveforms of three values in time order; the formula is built by recursion with sets and
 dictionaries, its controlling values and cubes found from the gates' truth tables; unit propagation watches two
 literals a clause; the true delay is the largest time over all vectors. Only the record types and the kinds' numbers are
-shared.
-Every maker takes a generator of random numbers, so a seed gives the same cases on every machine.
+shared. Every maker takes a generator of random numbers, so a seed gives the same cases on every machine.
 """
 
 import functools
