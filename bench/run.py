@@ -10,6 +10,7 @@ test. Assumes Debian, and the right to install what is missing.
 """
 
 import os
+import random
 import re
 import struct
 import subprocess
@@ -108,7 +109,8 @@ def evaluation_cases(folder, dice):
     for name, netlist in netlists:
         vector = bytes(methods.random_vector(dice, netlist.inputs))
         yield evaluation_case(folder, name, netlist, methods.in_time(netlist), vector)
-    arrivals = [dice.randint(0, document.MOST_ARRIVAL) for _ in range(netlist.inputs)]
+    late = random.Random(netlist.inputs)  # dice of its own, so that the cases behind stay as they are
+    arrivals = [late.randint(0, document.MOST_ARRIVAL) for _ in range(netlist.inputs)]
     yield evaluation_case(folder, "late inputs", netlist, arrivals, vector)
 
 

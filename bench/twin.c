@@ -233,20 +233,34 @@ static void settle_simple(const netlist *n, gate it, uint32_t node, uint8_t *val
     times[node] = first != UINT32_MAX ? first : last;
 }
 
-/* XOR, XNOR and MUX: the last pin of all. */
-static void settle_other(const netlist *n, gate it, uint32_t node, uint8_t *values, uint32_t *times)
+static uint32_t later(uint32_t a, uint32_t b)
 {
-    uint32_t last = 0;
-    uint32_t pin[3] = {0, 0, 0};
-    for (uint32_t i = 0; i < it.count; i++) {
-        uint32_t driver = driver_at(n, it.first + i);
-        uint32_t ready = times[driver] + delay_at(n, it.first + i);
-        pin[i] = values[driver];
-        if (ready > last)
-            last = ready;
+    return a < b ? b : a;
+}
+
+/* XOR and XNOR: the last pin of the two. */
+static void settle_parity(const netlist *n, gate it, uint32_t node, uint8_t *values, uint32_t *times)
+{
+    uint32_t first = driver_at(n, it.first), second = driver_at(n, it.first + 1);
+    values[node] = (uint8_t)(values[first] ^ values[second] ^ (it.kind == XNOR));
+    times[node] = later(times[first] + delay_at(n, it.first), times[second] + delay_at(n, it.first + 1));
+}
+
+/* MUX: select and the chosen data pin; where the data pins agree, these two, if that is earlier. */
+static void settle_mux(const netlist *n, gate it, uint32_t node, uint8_t *values, uint32_t *times)
+{
+    uint32_t driver = driver_at(n, it.first);
+    uint32_t select = times[driver] + delay_at(n, it.first);
+    uint32_t chosen = it.first + 1 + values[driver], other = it.first + 2 - values[driver];
+    uint32_t from = driver_at(n, chosen), beside = driver_at(n, other);
+    uint32_t ready = times[from] + delay_at(n, chosen);
+    values[node] = values[from];
+    if (values[from] == values[beside]) {
+        uint32_t agreed = times[beside] + delay_at(n, other);
+        if (agreed < select)
+            select = agreed;
     }
-    values[node] = (uint8_t)(it.kind == MUX ? (pin[0] ? pin[2] : pin[1]) : pin[0] ^ pin[1] ^ (it.kind == XNOR));
-    times[node] = last;
+    times[node] = later(select, ready);
 }
 
 /* All nodes; gives the time at which the circuit settles. */
@@ -258,8 +272,10 @@ static uint32_t settle(const netlist *n, const uint8_t *vector, uint8_t *values,
         gate it = gate_at(n, g);
         if (is_simple(it.kind))
             settle_simple(n, it, n->inputs + g, values, times);
+        else if (it.kind == MUX)
+            settle_mux(n, it, n->inputs + g, values, times);
         else
-            settle_other(n, it, n->inputs + g, values, times);
+            settle_parity(n, it, n->inputs + g, values, times);
     }
     uint32_t last = 0;
     for (uint32_t q = 0; q < n->output_count; q++)
@@ -543,8 +559,24 @@ static int32_t late(const lateness *l, const uint32_t *table, pin *p, uint32_t t
     return (int32_t)(nodes_of(l->n) + 1 + p->next);
 }
 
-/* The clauses of a pair (rule F12): some driver is late, left out where one surely is; then, where the gate is simple,
- * a clause for each pin. */
+/* The clause of a multiplexer's cube, one pin at x and another at y: each of them late, or not at its value; left out
+ * where one surely is late. */
+static void write_cube(writer *w, int32_t variable, const pin *one, uint32_t x, const pin *other, uint32_t y)
+{
+    if (one->late == IS_LATE || other->late == IS_LATE)
+        return;
+    put(w, -variable);
+    if (one->late != NOT_LATE)
+        put(w, one->late);
+    put(w, node_is(one->driver, 1 - x));
+    if (other->late != NOT_LATE)
+        put(w, other->late);
+    put(w, node_is(other->driver, 1 - y));
+    end_clause(w);
+}
+
+/* The clauses of a pair (rule F12): some driver is late, left out where one surely is; then a clause for each
+ * controlling cube: where the gate is simple for each pin, and six where it is a multiplexer. */
 static void write_pair(writer *w, gate it, const pin *pins, int32_t variable, int some_surely)
 {
     if (!some_surely) {
@@ -553,6 +585,13 @@ static void write_pair(writer *w, gate it, const pin *pins, int32_t variable, in
             if (pins[i].late != NOT_LATE)
                 put(w, pins[i].late);
         end_clause(w);
+    }
+    if (it.kind == MUX) {
+        for (uint32_t s = 0; s < 2; s++)
+            for (uint32_t value = 0; value < 2; value++)
+                write_cube(w, variable, pins, s, pins + 1 + s, value);
+        for (uint32_t value = 0; value < 2; value++)
+            write_cube(w, variable, pins + 1, value, pins + 2, value);
     }
     if (!is_simple(it.kind))
         return;

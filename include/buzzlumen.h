@@ -41,7 +41,9 @@
  *
  * SETTLING. An input settles at its arrival, and a pin is ready a delay after its driver settles. The kinds 1 to 6 are
  * settled by their earliest pin at the controlling value, which is 1 for OR and NOR and 0 for the others, if any pin
- * has it. All other gates wait for their last pin. The circuit settles with its latest output, never after 457,551.
+ * has it. MUX waits for select and the data pin that it chooses; where the two data pins agree, for these two instead,
+ * if that is earlier. All other gates wait for their last pin. The circuit settles with its latest output, never after
+ * 457,551.
  */
 #ifndef BUZZLUMEN_H
 #define BUZZLUMEN_H

@@ -446,12 +446,13 @@ def circuit_edges():
     """Edges of evaluate, build and judge."""
     twice = write_netlist(Netlist(1, [Gate(XOR, [Pin(0, 1), Pin(0, 4)])], [1]))
     chooser = write_netlist(Netlist(3, [Gate(MUX, [Pin(0, 9), Pin(1, 1), Pin(2, 2)])], [3]))
+    tied = write_netlist(Netlist(2, [Gate(MUX, [Pin(0, 9), Pin(1, 1), Pin(1, 2)])], [2]))
     through = write_netlist(Netlist(1, [], [0]))
     calls = [Call("evaluate", (FILE_A, [0, 0], bytes(vector), 5, 5), Settled(time))
              for vector, time in (((0, 0), 2), ((0, 1), 1), ((1, 0), 2), ((1, 1), 1))]
     calls += [Call("evaluate", (twice, [0], bytes((value,)), 2, 2), Settled(4)) for value in (0, 1)]
-    calls += [Call("evaluate", (chooser, [0] * 3, bytes(vector), 4, 4), Settled(9))
-              for vector in methods.all_vectors(3)]
+    calls += [Call("evaluate", (chooser, [0] * 3, bytes((s, a, b)), 4, 4), Settled(2 if a == b else 9))
+              for s, a, b in methods.all_vectors(3)]
     return calls + [
         Call("build", (FILE_A, [0, 0], 0, 0, 26), Built(5, 8, 26, 0)),
         Call("build", (FILE_A, [0, 0], 3, 6, 48), Built(8, 15, 48, 3)),
@@ -462,6 +463,11 @@ def circuit_edges():
         Call("judge", (FILE_A, [0, 0], 2, bytes((0, 1)), [0], 5, 5, 6, 48, 9), Refused(15, 1)),
         Call("judge", (FILE_A, [0, 0], 5, bytes((0, 0)), [0], 5, 5, 6, 48, 9), Refused(15, 2)),
         Call("judge", (FILE_A, [0, 0], LARGEST, bytes((0, 0)), [0], 5, 5, 6, 48, 9), Refused(15, 2)),
+        Call("build", (chooser, [0] * 3, 9, 2, 26), Built(5, 7, 26, 1)),
+        Call("build", (chooser, [0] * 3, 2, 2, 18), Built(5, 5, 18, 1)),
+        Call("judge", (chooser, [0] * 3, 9, bytes((0, 0, 1)), [0], 4, 4, 0, 17, 5), Accepted()),
+        Call("judge", (chooser, [0] * 3, 9, bytes((0, 1, 1)), [0], 4, 4, 0, 17, 5), Refused(15, 2)),
+        Call("judge", (tied, [0, 0], 2, bytes((1, 0)), [0], 3, 3, 2, 26, 5), Accepted()),
         Call("build", (through, [0], 0, 0, 0), Built(1, 0, 0, 0)),
         Call("judge", (through, [0], 0, bytes((1,)), [0], 1, 1, 0, 1, 2), Accepted()),
     ]

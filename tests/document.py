@@ -25,6 +25,10 @@ PIN_COUNTS = {BUF: (1, 1), NOT: (1, 1), AND: (2, 8), NAND: (2, 8), OR: (2, 8), N
 CONTROLLING = {BUF: 0, NOT: 0, AND: 0, NAND: 0, OR: 1, NOR: 1}
 FORCED = {BUF: 0, NOT: 1, AND: 0, NAND: 1, OR: 1, NOR: 0}
 
+# The controlling cubes of MUX, in their order (rule K6): each of its literals is a pin's place and the value it must
+# have. Pin 0 is select, 1 is a, 2 is b.
+MUX_CUBES = (((0, 0), (1, 0)), ((0, 0), (1, 1)), ((0, 1), (2, 0)), ((0, 1), (2, 1)), ((1, 0), (2, 0)), ((1, 1), (2, 1)))
+
 TRAILER = 14
 MOST_INPUTS, MOST_GATES, MOST_PINS, MOST_OUTPUTS = 64, 448, 2048, 64
 MOST_DELAY = 999
@@ -188,16 +192,22 @@ def gate_value(kind, pins):
     return b if select else a
 
 
+def cubes_of(kind, count):
+    """The controlling cubes of a gate with so many pins, in their order (rule K6): of a simple gate each pin at c."""
+    if kind in SIMPLE:
+        return [((place, CONTROLLING[kind]),) for place in range(count)]
+    return MUX_CUBES if kind == MUX else ()
+
+
 def gate_time(kind, pins):
     """When a gate settles; a pin is (value, the time it is ready).
 
-    With pins at c a simple gate settles as soon as the earliest of them is ready (rule S3); every other gate, once all
-    its pins are (rules S3 and S4).
+    Where controlling cubes hold, it is as soon as all pins of one of them are ready; otherwise, once all the gate's
+    pins are (rules S3 and S4).
     """
-    if kind in SIMPLE:
-        controlling = [ready for value, ready in pins if value == CONTROLLING[kind]]
-        if controlling:
-            return min(controlling)
+    holding = [cube for cube in cubes_of(kind, len(pins)) if all(pins[place][0] == value for place, value in cube)]
+    if holding:
+        return min(max(pins[place][1] for place, _ in cube) for cube in holding)
     return max(ready for _, ready in pins)
 
 
@@ -302,10 +312,11 @@ def pair_clauses(pair, number, gate, part):
     _, t = pair
     drivers_late = [part(pin.driver, t - pin.delay) for pin in gate.pins]
     clauses = [[-number] + drivers_late]
-    if gate.kind in SIMPLE:
-        c = CONTROLLING[gate.kind]
-        for pin, driver_late in zip(gate.pins, drivers_late):
-            clauses.append([-number, driver_late, node_is(pin.driver, 1 - c)])
+    for cube in cubes_of(gate.kind, len(gate.pins)):
+        clause = [-number]
+        for place, value in cube:
+            clause += [drivers_late[place], node_is(gate.pins[place].driver, 1 - value)]
+        clauses.append(clause)
     return clauses
 
 

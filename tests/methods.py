@@ -2,9 +2,9 @@
 circuits, arrivals, vectors and damaged files.
 
 Settling is simulated as waveforms of three values in time order; the formula is built by recursion with sets and
-dictionaries, its controlling values found from the gates' truth tables; unit propagation watches two literals a
-clause; the true delay is the largest time over all vectors. Only the record types and the kinds' numbers are shared.
-Every maker takes a generator of random numbers, so a seed gives the same cases on every machine.
+dictionaries, its controlling values and cubes found from the gates' truth tables; unit propagation watches two
+literals a clause; the true delay is the largest time over all vectors. Only the record types and the kinds' numbers are
+shared. Every maker takes a generator of random numbers, so a seed gives the same cases on every machine.
 """
 
 import functools
@@ -21,24 +21,22 @@ UNKNOWN = None
 # Settling by waveforms
 
 
-def known_output(kind, pins):
-    """The output of a gate some of whose pins may still be unknown; unknown where the known pins do not force it.
+def function_of(kind, pins):
+    """A gate's function of known pins."""
+    if kind == MUX:
+        return pins[1 + pins[0]]
+    if kind in (XOR, XNOR):
+        return (sum(pins) + (kind == XNOR)) % 2
+    plain = min(pins) if kind in (BUF, NOT, AND, NAND) else max(pins)
+    return plain if kind in (BUF, AND, OR) else 1 - plain
 
-    XOR, XNOR and MUX wait for every pin. For the others an output is known as soon as no unknown pin can change it.
-    """
-    if kind in (XOR, XNOR, MUX):
-        if UNKNOWN in pins:
-            return UNKNOWN
-        if kind == MUX:
-            return pins[1 + pins[0]]
-        return (pins[0] + pins[1] + (kind == XNOR)) % 2
-    if kind in (BUF, AND, NOT, NAND):
-        plain = 0 if 0 in pins else UNKNOWN if UNKNOWN in pins else 1
-    else:
-        plain = 1 if 1 in pins else UNKNOWN if UNKNOWN in pins else 0
-    if plain is UNKNOWN or kind in (BUF, AND, OR):
-        return plain
-    return 1 - plain
+
+@functools.lru_cache(None)
+def known_output(kind, pins):
+    """The output of a gate some of whose pins may still be unknown: known as soon as no unknown pin can change it."""
+    ends = itertools.product(*[(0, 1) if pin is UNKNOWN else (pin,) for pin in pins])
+    outputs = {function_of(kind, end) for end in ends}
+    return outputs.pop() if len(outputs) == 1 else UNKNOWN
 
 
 def waveforms(netlist, arrivals, vector):
@@ -65,7 +63,7 @@ def waveforms(netlist, arrivals, vector):
         seen[g][place] = value
         node = netlist.inputs + g
         if values[node] is UNKNOWN:
-            output = known_output(netlist.gates[g].kind, seen[g])
+            output = known_output(netlist.gates[g].kind, tuple(seen[g]))
             if output is not UNKNOWN:
                 becomes_known(moment, node, output)
     return values, times
@@ -92,23 +90,33 @@ def true_delay(netlist, arrivals=None):
 # The formula by recursion
 
 
-def function_of(kind, pins):
-    """A gate's function of known pins."""
-    return known_output(kind, list(pins))
-
-
 @functools.lru_cache(None)
 def controlling(kind, count):
     """(c, k): the first value that forces the output when it stands on one pin, and that output; None where none
-    does. XOR, XNOR and MUX have none by rule S4.
+    does.
     """
-    if kind in (XOR, XNOR, MUX):
-        return None
     for c in (0, 1):
-        forced = {function_of(kind, (c,) + rest) for rest in itertools.product((0, 1), repeat=count - 1)}
-        if len(forced) == 1:
-            return c, forced.pop()
+        k = known_output(kind, (c,) + (UNKNOWN,) * (count - 1))
+        if k is not UNKNOWN:
+            return c, k
     return None
+
+
+@functools.lru_cache(None)
+def forcing(kind, count):
+    """The settings of some pins that force the output whatever the others are, each a tuple of places and values: one
+    pin at c; where there is no c, all pins but one, tried by places and then by values.
+    """
+    forces = controlling(kind, count)
+    if forces:
+        return [((place, forces[0]),) for place in range(count)]
+    found = []
+    for places in itertools.combinations(range(count), count - 1):
+        for values in itertools.product((0, 1), repeat=count - 1):
+            setting = dict(zip(places, values))
+            if known_output(kind, tuple(setting.get(place, UNKNOWN) for place in range(count))) is not UNKNOWN:
+                found.append(tuple(setting.items()))
+    return found
 
 
 class Late:
@@ -186,11 +194,12 @@ def formula(netlist, arrivals, target):
     for (node, t), number in lateness.number_of.items():
         gate = netlist.gates[node - netlist.inputs]
         clauses += lateness.either([-number], [(pin.driver, t - pin.delay) for pin in gate.pins])
-        forces = controlling(gate.kind, len(gate.pins))
-        if forces:
-            for pin in gate.pins:
-                not_controlling = pin.driver + 1 if forces[0] == 0 else -(pin.driver + 1)
-                clauses += lateness.either([-number], [(pin.driver, t - pin.delay), not_controlling])
+        for setting in forcing(gate.kind, len(gate.pins)):
+            parts = []
+            for place, value in setting:
+                driver, delay = gate.pins[place]
+                parts += [(driver, t - delay), -(driver + 1) if value else driver + 1]
+            clauses += lateness.either([-number], parts)
     clauses += lateness.either([], [(node, target) for node in netlist.outputs])
     return list(lateness.number_of), clauses
 

@@ -75,8 +75,10 @@ class Trouble(Asking):
             kept = self.folder / f"kept_{number}"
             kept.mkdir()
             variables = self.environment(PATH=f"{folder}:{os.environ['PATH']}", TMPDIR=kept)
+            # A shell without job control starts its background programs deaf to interrupts: not this one.
             process = subprocess.Popen(COMMAND + ["delay", str(A), "-o", str(self.folder / "made")], env=variables,
-                                       stdout=subprocess.PIPE, stderr=subprocess.PIPE, start_new_session=True)
+                                       stdout=subprocess.PIPE, stderr=subprocess.PIPE, start_new_session=True,
+                                       preexec_fn=lambda: signal.signal(signal.SIGINT, signal.SIG_DFL))
             while not (self.folder / "pid").exists() or not (self.folder / "pid").read_text():
                 time.sleep(0.02)
             process.send_signal(number)

@@ -38,8 +38,7 @@ use Rattle.netlist.specs.declared.Kind.{Kind}
 use Rattle.netlist.specs.declared.Kind.the-variants.{Simple, Parity, Mux}
 use Rattle.netlist.specs.Netlist.{Cell, Pin, takes}
 use Rattle.netlist.proofs.Valid.{takes-parity, takes-mux}
-use Rattle.settle.specs.Settling.{gateValue}
-use Rattle.settle.specs.Cubes.{Cube, cubes}
+use Rattle.settle.specs.Settling.{gateValue, Cube, cubes}
 use Rattle.settle.proofs.Cubes.{cube-pin}
 use Rattle.formula.specs.Formula.{
   Part,
@@ -53,7 +52,8 @@ use Rattle.formula.specs.Formula.{
   gateClauses,
   late,
   driverLate,
-  controlClauses,
+  cubeParts,
+  cubeClause,
   pairClauses,
   formula,
 }
@@ -216,30 +216,6 @@ module _ {P : Type 0} where
 -- ---- a pair's clauses
 
 module _ {X : Type 0} (I : ℕ) (top : ℕ → ℕ) (node : ℕ → X) (pair : ℕ → ℕ → X) where
-  -- the parts of a cube's literal: driver late, or literal false
-  abbrev pub cubeParts : ℕ → Pin × Bool → List (Part X)
-  cubeParts t l = driverLate I top node pair t (l .0) ∷ literal (not (l .1)) (node (l .0 .driver)) ∷ []
-
-  -- the clause of a pair for one controlling cube: "-p, or for some literal of the cube: driver late, or literal false"
-  abbrev pub cubeClause : ℕ → ℕ → Cube Pin → List (List (Bool × X))
-  cubeClause f t cube = clauseOf (literal false (pair f t) ∷ concatMap (cubeParts t) cube)
-
-  one-pin-clauses : (f t : ℕ) (c : Bool) (ps : List Pin) →
-      concatMap
-      (λ p.
-      clauseOf
-      (literal false (pair f t) ∷ driverLate I top node pair t p ∷ literal (not c) (node (p .driver)) ∷ [])) ps
-      ≡ concatMap (cubeClause f t) (map (λ p. (p, c) ∷ []) ps)
-  one-pin-clauses f t c [] = refl
-  one-pin-clauses f t c (p ∷ ps) = ap (λ r. cubeClause f t ((p, c) ∷ []) ++ r) (one-pin-clauses f t c ps)
-
-  -- the clauses of rule F12, for each kind, are those of its controlling cubes
-  pub control-clauses : (f : ℕ) (kind : Kind) (ps : List Pin) (t : ℕ) →
-      controlClauses I top node pair f kind ps t ≡ concatMap (cubeClause f t) (cubes kind ps)
-  control-clauses f (Simple c k) ps t = one-pin-clauses f t c ps
-  control-clauses f (Parity equal) ps t = refl
-  control-clauses f Mux ps t = refl
-
   module _ (σ : X → Bool) where
     -- what the assignment says of a node's being late at t
     abbrev pub lateTrue : ℕ → ℕ → Bool
@@ -261,22 +237,23 @@ module _ {X : Type 0} (I : ℕ) (top : ℕ → ℕ) (node : ℕ → X) (pair : �
     abbrev slowOrFalse : ℕ → Pin × Bool → Bool
     slowOrFalse t l = driverLateTrue t (l .0) || driverFails (l .0) (l .1)
 
-    cube-says : (t : ℕ) (cube : Cube Pin) → any (partTrue σ) (concatMap (cubeParts t) cube) ≡ any (slowOrFalse t) cube
+    cube-says : (t : ℕ) (cube : Cube Pin) → any (partTrue σ) (concatMap (cubeParts I top node pair t) cube) ≡ any
+        (slowOrFalse t) cube
     cube-says t cube =
-        any-concatMap (partTrue σ) (cubeParts t) cube
-        ∙ any-cong (λ l. any (partTrue σ) (cubeParts t l)) (slowOrFalse t) cube
+        any-concatMap (partTrue σ) (cubeParts I top node pair t) cube
+        ∙ any-cong (λ l. any (partTrue σ) (cubeParts I top node pair t l)) (slowOrFalse t) cube
         (λ l m.
         by-table-of-two (λ a b. a || (b || false)) (λ a b. a || b) tt
         (driverLateTrue t (l .0))
         (driverFails (l .0) (l .1)))
 
     cubes-say : (f t : ℕ) (some-cubes : List (Cube Pin)) →
-        all (λ cube. solves σ (cubeClause f t cube)) some-cubes
+        all (λ cube. solves σ (cubeClause I top node pair f t cube)) some-cubes
         ≡ (not (σ (pair f t)) || all (any (slowOrFalse t)) some-cubes)
     cubes-say f t [] = by-table-of-one (λ a. true) (λ a. not a || true) tt (σ (pair f t))
     cubes-say f t (cube ∷ rest) =
         ap₂ (λ a b. a && b)
-        (clause-says σ (literal false (pair f t) ∷ concatMap (cubeParts t) cube)
+        (clause-says σ (literal false (pair f t) ∷ concatMap (cubeParts I top node pair t) cube)
         ∙ ap (λ b. Bool·beq (σ (pair f t)) false || b) (cube-says t cube))
         (cubes-say f t rest)
         ∙ by-table-of-three (λ p a b. (Bool·beq p false || a) && (not p || b)) (λ p a b. not p || a && b) tt
@@ -292,12 +269,11 @@ module _ {X : Type 0} (I : ℕ) (top : ℕ → ℕ) (node : ℕ → X) (pair : �
     pair-says f kind ps t =
         all-append (any (literalTrue σ))
         (clauseOf (literal false (pair f t) ∷ map (driverLate I top node pair t) ps))
-        (controlClauses I top node pair f kind ps t)
+        (concatMap (cubeClause I top node pair f t) (cubes kind ps))
         ∙ ap₂ (λ a b. a && b)
         (clause-says σ (literal false (pair f t) ∷ map (driverLate I top node pair t) ps)
         ∙ ap (λ b. Bool·beq (σ (pair f t)) false || b) (any-map (partTrue σ) (driverLate I top node pair t) ps))
-        (ap (solves σ) (control-clauses f kind ps t)
-        ∙ all-concatMap (any (literalTrue σ)) (cubeClause f t) (cubes kind ps)
+        (all-concatMap (any (literalTrue σ)) (cubeClause I top node pair f t) (cubes kind ps)
         ∙ cubes-say f t (cubes kind ps))
         ∙ by-table-of-three (λ p a b. (Bool·beq p false || a) && (not p || b)) (λ p a b. not p || a && b) tt
         (σ (pair f t))

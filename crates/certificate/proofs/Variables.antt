@@ -24,7 +24,7 @@ use Rattle.basics.proofs.Lists.{all-of, all-join, all-concatMap-of, map-mem, co
 use Rattle.netlist.specs.declared.Kind.{Kind}
 use Rattle.netlist.specs.declared.Kind.the-variants.{Simple, Parity, Mux}
 use Rattle.netlist.specs.Netlist.{Cell, Pin, nodeCount, valid, Circuit}
-use Rattle.settle.specs.Cubes.{Cube, cubes}
+use Rattle.settle.specs.Settling.{Cube, cubes}
 use Rattle.settle.proofs.Cubes.{cube-pin}
 use Rattle.settle.proofs.Nodes.{Laid, laid}
 use Rattle.pairs.specs.Pairs.{pairsFor, pairPlace}
@@ -41,14 +41,14 @@ use Rattle.formula.specs.Formula.{
   gateClauses,
   late,
   driverLate,
-  controlClauses,
+  cubeParts,
+  cubeClause,
   pairClauses,
   formula,
   nodeVariable,
   pairVariable,
   formulaFor,
 }
-use Rattle.certificate.proofs.Says.{cubeParts, cubeClause, control-clauses}
 use Rattle.certificate.proofs.Facts.{Listed, driver-in}
 
 -- ---- what is allowed of the variables
@@ -180,7 +180,7 @@ module _ {I N : ℕ} {gates : List (ℕ × Cell)} {top : ℕ → ℕ} {times : �
   pair-allowed x m t i =
       all-join (all (literalAllowed allowed))
       (clauseOf (literal false (pair (x .0) t) ∷ map (driverLate I top node pair t) (x .1 .pins)))
-      (controlClauses I top node pair (x .0) (x .1 .kind) (x .1 .pins) t)
+      (concatMap (cubeClause I top node pair (x .0) t) (cubes (x .1 .kind) (x .1 .pins)))
       (clause-allowed allowed (literal false (pair (x .0) t) ∷ map (driverLate I top node pair t) (x .1 .pins))
       (and-both (allowed (pair (x .0) t)) (all (partAllowed allowed) (map (driverLate I top node pair t) (x .1 .pins)))
       (pairs-allowed (x .0) t i)
@@ -188,10 +188,8 @@ module _ {I N : ℕ} {gates : List (ℕ × Cell)} {top : ℕ → ℕ} {times : �
       (λ r k.
       let w = map-mem (driverLate I top node pair t) (x .1 .pins) r k in
       subst (λ z. T (partAllowed allowed z)) (sym (w .2)) (driver-allowed x m t i (w .0) (w .1))))))
-      (subst (λ clauses. T (clausesAllowed allowed clauses))
-      (sym (control-clauses I top node pair (x .0) (x .1 .kind) (x .1 .pins) t))
       (all-concatMap-of (all (literalAllowed allowed)) (cubeClause I top node pair (x .0) t)
-      (cubes (x .1 .kind) (x .1 .pins)) (cube-allowed x m t i)))
+      (cubes (x .1 .kind) (x .1 .pins)) (cube-allowed x m t i))
 
   -- what is allowed of each node's and each listed pair's variable is allowed of the formula's
   pub formula-allowed : T (clausesAllowed allowed (formula I top node pair gates times outputs target))

@@ -2,7 +2,7 @@
 -- output. Assumes nothing.
 use mathlib.Core.Path.{_≡_, refl, sym, ap, ap₂, _∙_, subst}
 use mathlib.Core.Bool.{Bool, true, false, not, cond, _||_}
-use mathlib.Core.List.{List, [], _∷_, _++_, map, map-append, map-map}
+use mathlib.Core.List.{List, [], _∷_, _++_, map, map-append, map-map, append-assoc, append-nil}
 use Prim.Native.Nat.{ℕ, zero, suc, _+_, _-_, _*_, _≤_, _<_}
 use native.Mathlib.Omega.{arith}
 use native.Mathlib.Numerals.{add-one}
@@ -16,6 +16,8 @@ use Rattle.netlist.specs.declared.Shape.{Shape}
 use Rattle.netlist.specs.Netlist.{Pin}
 use Rattle.netlist.specs.File.{driverAt, pinAt, pinsFrom, netlistAt}
 use Rattle.netlist.proofs.Ranges.{upFrom-append, map-upFrom-at}
+use Rattle.settle.specs.Settling.{Cube, cubes}
+use Rattle.settle.proofs.Pins.{three-pins}
 use Rattle.clauses.specs.Codes.{literalCode}
 use Rattle.formula.specs.declared.Share.{Share}
 use Rattle.formula.specs.declared.Share.the-variants.{Forced, Driver, Control}
@@ -30,6 +32,9 @@ use Rattle.formula.specs.Emission.{
   tokensOf,
   codeRun,
   shareRun,
+  cubeRun,
+  pairOfPins,
+  muxRun,
   sharesRun,
   lateRun,
   simpleRun,
@@ -45,7 +50,7 @@ use Rattle.formula.specs.Late.{
   timeAt,
   lateAt,
   pinLate,
-  pinControl,
+  controlIn,
   driversLate,
   outputsLate,
   Asking,
@@ -53,7 +58,7 @@ use Rattle.formula.specs.Late.{
   Long,
   Reads,
 }
-use Rattle.formula.proofs.Late.{halved, late-sure, late-run, late-control, clause-run}
+use Rattle.formula.proofs.Late.{halved, late-sure, late-run, late-control, cube-control, clause-run}
 use Rattle.formula.proofs.Gates.{pinRun, simple-tokens, parity-tokens, mux-tokens}
 
 -- ---- reading
@@ -200,6 +205,11 @@ module _ {file : List ℕ} {l : Lent} {side : Side} {first count t : ℕ} {nodes
 
 -- ---- pins
 
+-- six runs, one after the other
+six-runs : (a b c d e f : List Token) →
+    ((a ++ b) ++ (c ++ d)) ++ (e ++ f) ≡ a ++ (b ++ (c ++ (d ++ (e ++ (f ++ [])))))
+six-runs a b c d e f = simp (append-assoc, append-nil) refl
+
 module _ {file : List ℕ} {l : Lent} {first count t : ℕ} {nodes lates : List ℕ} {some : Bool}
     (r : Reads file l Pins first count t nodes lates some) where
   -- what each pin adds where no time is asked for
@@ -244,18 +254,60 @@ module _ {file : List ℕ} {l : Lent} {first count t : ℕ} {nodes lates : List 
       mux-tokens file (l .shape) first count node (first-read (omega arith)) (node-read 1 (omega arith))
       (node-read 2 (omega arith)) n
 
-  -- "-p, driver late, driver is not c"
-  pub control-read : (c : Bool) (pair : ℕ) →
+  -- a simple gate's controlling cubes: "-p, driver late, driver is not c"
+  pub control-read : (c k : Bool) (pair : ℕ) →
       sharesRun Control c false pair nodes lates count
-      ≡ concatMap (pinControl l c pair t) (pinsFrom file (l .shape) first count)
+      ≡ concatMap (controlIn l pair t) (cubes (Simple c k) (pinsFrom file (l .shape) first count))
   unfolding pinsFrom pinAt
-  control-read c pair =
+  control-read c k pair =
+      let one : Pin → Cube Pin = λ p. (p, c) ∷ [] in
       shares-read r Control c false pair
       ∙ each-as _ _
       (λ e.
       late-control l (nodeAt file (l .shape) Pins e) (timeAt file (l .shape) Pins t e) c false pair
       (nodeAt file (l .shape) Pins e)) (upFrom first count)
-      ∙ runs-of (pinControl l c pair t) (pinAt file (l .shape)) (upFrom first count)
+      ∙ runs-of (λ p. controlIn l pair t (one p)) (pinAt file (l .shape)) (upFrom first count)
+      ∙ runs-of (controlIn l pair t) one (pinsFrom file (l .shape) first count)
+
+  -- a multiplexer's, of two pins each
+  two-read : (pair i : ℕ) (a : Bool) (j : ℕ) (b : Bool) → i < count → j < count →
+      pairOfPins pair nodes lates i a j b
+      ≡ controlIn l pair t ((pinAt file (l .shape) (first + i), a) ∷ (pinAt file (l .shape) (first + j), b) ∷ [])
+  unfolding pinAt
+  two-read pair i a j b h k =
+      let x = driverAt file (l .shape) (first + i) in
+      let y = driverAt file (l .shape) (first + j) in
+      ap₂ (λ (n m : ℕ). cubeRun pair n m a (getD nodes j 0) (getD lates j 0) b) (node-read i h) (late-read r i h)
+      ∙ ap₂ (λ (n m : ℕ). cubeRun pair x (partCode (lateAt file l Pins t (first + i))) a n m b) (node-read j k)
+      (late-read r j k)
+      ∙ cube-control l x (timeAt file (l .shape) Pins t (first + i)) y (timeAt file (l .shape) Pins t (first + j)) a b
+      pair
+
+  pub mux-control-read : (pair : ℕ) → count ≡ 3 →
+      muxRun pair nodes lates
+      ≡ concatMap (controlIn l pair t) (cubes Mux (pinsFrom file (l .shape) first count))
+  mux-control-read pair n =
+      let z : first + 0 ≡ first = omega arith in
+      let zero : 0 < count = omega arith in
+      let one : 1 < count = omega arith in
+      let two : 2 < count = omega arith in
+      let s = pinAt file (l .shape) first in
+      let x = pinAt file (l .shape) (first + 1) in
+      let y = pinAt file (l .shape) (first + 2) in
+      let of : Pin → Bool → Pin → Bool → List Token = λ p u q v. controlIn l pair t ((p, u) ∷ (q, v) ∷ []) in
+      rw (
+        two-read pair 0 false 1 false zero one,
+        two-read pair 0 false 1 true zero one,
+        two-read pair 0 true 2 false zero two,
+        two-read pair 0 true 2 true zero two,
+        two-read pair 1 false 2 false one two,
+        two-read pair 1 true 2 true one two,
+        n,
+        three-pins file (l .shape) first,
+        z,
+      )
+      (six-runs (of s false x false) (of s false x true) (of s true y false) (of s true y true) (of x false y false)
+      (of x true y true))
 
   -- "-p, or some driver late"
   pub late-drivers : (pair : ℕ) → 0 < pair →

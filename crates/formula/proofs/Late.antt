@@ -16,7 +16,7 @@ use Rattle.pairs.proofs.Flat.{pairs-flat}
 use Rattle.pairs.proofs.Closed.{place-below}
 use Rattle.formula.specs.Formula.{Part, sure, never, literal, isSure, literals, clauseOf, late}
 use Rattle.formula.specs.declared.Share.the-variants.{Control}
-use Rattle.formula.specs.Emission.{Token, ended, wants, tokensOf, codeRun, shareRun}
+use Rattle.formula.specs.Emission.{Token, ended, wants, tokensOf, codeRun, nodeIs, shareRun, literalRun, cubeRun}
 use Rattle.formula.specs.Late.{
   Lent,
   partCode,
@@ -151,6 +151,43 @@ module _ (l : Lent) (node t : ℕ) where
       (λ n. rw (ne-eqb (suc n * 2) 1 (λ e. absurd (omega arith)), le-ltb (suc n * 2) 2 (omega arith), halved (suc n)))
       ∙ ap (λ (n : ℕ). tokensOf (clauseOf (literal false own ∷ lateIn l node t ∷ literal (not c) n ∷ [])))
       (add-one driver)
+
+-- the clause of a controlling cube of two literals, x and y being the variables of their drivers
+abbrev ofTwo : ℕ → Bool → Bool → Part ℕ → ℕ → Part ℕ → ℕ → List Token
+ofTwo own a b p x q y =
+    tokensOf (clauseOf (literal false own ∷ p ∷ literal (not a) x ∷ q ∷ literal (not b) y ∷ []))
+
+-- part by part
+two-parts : (own : ℕ) (a b : Bool) (p : Part ℕ) (x : ℕ) (q : Part ℕ) (y : ℕ) →
+    cond (isSure p || isSure q) []
+    ((((wants (false, own) ∷ []) ++ (partRun p ++ (wants (not a, x) ∷ []))) ++ (partRun q ++ (wants (not b, y) ∷ [])))
+    ++ (ended ∷ []))
+    ≡ ofTwo own a b p x q y
+unfolding clauseOf tokensOf
+two-parts own a b sure x q y = refl
+two-parts own a b never x sure y = refl
+two-parts own a b never x never y = refl
+two-parts own a b never x (literal d w) y = refl
+two-parts own a b (literal c v) x sure y = refl
+two-parts own a b (literal c v) x never y = refl
+two-parts own a b (literal c v) x (literal d w) y = refl
+
+-- by the codes
+pub cube-control : (l : Lent) (x s y t : ℕ) (a b : Bool) (own : ℕ) →
+    cubeRun own x (partCode (lateIn l x s)) a y (partCode (lateIn l y t)) b
+    ≡ ofTwo own a b (lateIn l x s) (suc x) (lateIn l y t) (suc y)
+cube-control l x s y t a b own =
+    let p = lateIn l x s in
+    let q = lateIn l y t in
+    ap₂ (λ (u v : Bool). cond (u || v) []
+    ((((wants (false, own) ∷ []) ++ literalRun x (partCode p) a) ++ literalRun y (partCode q) b) ++ (ended ∷ [])))
+    (late-sure l x s) (late-sure l y t)
+    ∙ ap₂ (λ (u v : List Token). cond (isSure p || isSure q) []
+    ((((wants (false, own) ∷ []) ++ (u ++ (wants (nodeIs x (not a)) ∷ [])))
+    ++ (v ++ (wants (nodeIs y (not b)) ∷ []))) ++ (ended ∷ [])))
+    (late-run l x s) (late-run l y t)
+    ∙ two-parts own a b p (x + 1) q (y + 1)
+    ∙ ap₂ (λ (n m : ℕ). ofTwo own a b p n q m) (add-one x) (add-one y)
 
 -- ---- a clause of parts
 

@@ -1,7 +1,6 @@
 -- The list that the code puts is the definition's formula: the pairs come in the order of the table, each with its
 -- gate's kind and pins. Assumes nothing.
 use mathlib.Core.Path.{_≡_, refl, sym, ap, ap₂, _∙_}
-use mathlib.Core.Bool.{not}
 use mathlib.Core.List.{
   List,
   [],
@@ -9,7 +8,6 @@ use mathlib.Core.List.{
   _++_,
   map,
   append-assoc,
-  append-nil,
   List·Memᴰ,
   List·Memᴰ·head,
   List·Memᴰ·tail,
@@ -20,13 +18,12 @@ use lib.ListN.{length, getD, length-append}
 use Rattle.basics.specs.Lists.{concatMap, upFrom, numbered}
 use Rattle.basics.proofs.Lists.{concatMap-append}
 use Rattle.netlist.specs.declared.Kind.{Kind}
-use Rattle.netlist.specs.declared.Kind.the-variants.{Simple, Parity, Mux}
 use Rattle.netlist.specs.declared.Shape.{Shape}
 use Rattle.netlist.specs.Netlist.{Cell, Pin, nodes}
 use Rattle.netlist.specs.File.{cellAt, netlistAt, circuitAt}
 use Rattle.netlist.proofs.Entries.{node-count, node-only}
 use Rattle.clauses.specs.Clauses.{Literal}
-use Rattle.settle.specs.Settling.{topOf}
+use Rattle.settle.specs.Settling.{topOf, Cube, cubes}
 use Rattle.pairs.specs.Pairs.{timesAt, pairList, pairsFor, pairPlace}
 use Rattle.pairs.specs.Table.{pairsIn}
 use Rattle.pairs.specs.Promise.{pairsAt}
@@ -36,7 +33,7 @@ use Rattle.formula.specs.Formula.{
   clauseOf,
   gateClauses,
   late,
-  controlClauses,
+  cubeClause,
   pairClauses,
   formula,
   nodeVariable,
@@ -66,15 +63,12 @@ pair-tokens : (l : Lent) (f : ℕ) (kind : Kind) (pins : List Pin) (t : ℕ) →
     clausesIn l (variableIn l f t) kind pins t
     ≡ tokensOf (pairClauses (l .shape .inputs) (topIn (l .tops)) nodeVariable (variableIn l) f kind pins t)
 unfolding pairClauses
-pair-tokens l f (Simple c k) pins t =
-    let I = l .shape .inputs in
+pair-tokens l f kind pins t =
     let first = clauseOf (literal _ (variableIn l f t) ∷ map (pinLate l t) pins) in
-    sym (tokens-append first (controlClauses I (topIn (l .tops)) nodeVariable (variableIn l) f (Simple c k) pins t)
-    ∙ ap (λ (x : List Token). tokensOf first ++ x)
-    (tokens-concatMap (λ p. clauseOf (literal _ (variableIn l f t)
-    ∷ pinLate l t p ∷ literal (not c) (suc (p .driver)) ∷ [])) pins))
-pair-tokens l f (Parity equal) pins t = ap tokensOf (sym (append-nil _))
-pair-tokens l f Mux pins t = ap tokensOf (sym (append-nil _))
+    let ofCube : Cube Pin → List (List Literal) =
+    cubeClause (l .shape .inputs) (topIn (l .tops)) nodeVariable (variableIn l) f t in
+    sym (tokens-append first (concatMap ofCube (cubes kind pins))
+    ∙ ap (λ (x : List Token). tokensOf first ++ x) (tokens-concatMap ofCube (cubes kind pins)))
 
 -- ---- all pairs
 

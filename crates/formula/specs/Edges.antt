@@ -112,8 +112,14 @@ simple kind clauses control =
     builds (oneGate kind (2 ∷ 1 ∷ [])) 2 4 5 (2 ∷ 2 ∷ [])
     (lines (clauses ++ ((off 4 ∷ control ∷ []) ∷ (on 4 ∷ []) ∷ [])))
 
--- BUF, NOT, AND, NAND, OR, NOR, XOR, XNOR, MUX at their tops; XOR of one input twice, whose repeated and opposite
--- literals stay; two outputs in order
+-- MUX of three BUFs, each pin with delay 1
+unfoldable pub muxOfBuffers : List ℕ
+muxOfBuffers =
+    written 3 ((1, 1, 0) ∷ (1, 1, 1) ∷ (1, 1, 2) ∷ (9, 3, 3) ∷ [])
+    ((0, 1) ∷ (1, 1) ∷ (2, 1) ∷ (3, 1) ∷ (4, 1) ∷ (5, 1) ∷ []) (6 ∷ [])
+
+-- BUF, NOT, AND, NAND, OR, NOR, XOR, XNOR, MUX at their tops, and MUX behind gates, with all its clauses; XOR of one
+-- input twice, whose repeated and opposite literals stay; two outputs in order
 unfoldable pub everyKind : List Case
 everyKind =
     builds (oneGate 1 (3 ∷ [])) 3 3 3 (1 ∷ 3 ∷ [])
@@ -132,10 +138,22 @@ everyKind =
     (lines
     ((on 1 ∷ on 2 ∷ on 3 ∷ []) ∷ (on 1 ∷ off 2 ∷ off 3 ∷ []) ∷ (off 1 ∷ on 2 ∷ off 3 ∷ [])
     ∷ (off 1 ∷ off 2 ∷ on 3 ∷ []) ∷ (on 4 ∷ []) ∷ []))
-    ∷ builds muxOfThree 9 5 5 (3 ∷ 9 ∷ [])
+    ∷ builds muxOfThree 9 5 7 (3 ∷ 9 ∷ [])
     (lines
     ((on 1 ∷ off 2 ∷ on 4 ∷ []) ∷ (on 1 ∷ on 2 ∷ off 4 ∷ []) ∷ (off 1 ∷ off 3 ∷ on 4 ∷ [])
-    ∷ (off 1 ∷ on 3 ∷ off 4 ∷ []) ∷ (on 5 ∷ []) ∷ []))
+    ∷ (off 1 ∷ on 3 ∷ off 4 ∷ []) ∷ (off 5 ∷ on 2 ∷ on 3 ∷ []) ∷ (off 5 ∷ off 2 ∷ off 3 ∷ [])
+    ∷ (on 5 ∷ []) ∷ []))
+    ∷ builds muxOfBuffers 2 11 18 (3 ∷ 1 ∷ 4 ∷ 1 ∷ 5 ∷ 1 ∷ 6 ∷ 2 ∷ [])
+    (lines
+    ((on 1 ∷ off 4 ∷ []) ∷ (off 1 ∷ on 4 ∷ []) ∷ (on 2 ∷ off 5 ∷ []) ∷ (off 2 ∷ on 5 ∷ [])
+    ∷ (on 3 ∷ off 6 ∷ []) ∷ (off 3 ∷ on 6 ∷ [])
+    ∷ (on 4 ∷ off 5 ∷ on 7 ∷ []) ∷ (on 4 ∷ on 5 ∷ off 7 ∷ []) ∷ (off 4 ∷ off 6 ∷ on 7 ∷ [])
+    ∷ (off 4 ∷ on 6 ∷ off 7 ∷ [])
+    ∷ (off 11 ∷ on 8 ∷ on 9 ∷ on 10 ∷ [])
+    ∷ (off 11 ∷ on 8 ∷ on 4 ∷ on 9 ∷ on 5 ∷ []) ∷ (off 11 ∷ on 8 ∷ on 4 ∷ on 9 ∷ off 5 ∷ [])
+    ∷ (off 11 ∷ on 8 ∷ off 4 ∷ on 10 ∷ on 6 ∷ []) ∷ (off 11 ∷ on 8 ∷ off 4 ∷ on 10 ∷ off 6 ∷ [])
+    ∷ (off 11 ∷ on 9 ∷ on 5 ∷ on 10 ∷ on 6 ∷ []) ∷ (off 11 ∷ on 9 ∷ off 5 ∷ on 10 ∷ off 6 ∷ [])
+    ∷ (on 11 ∷ []) ∷ []))
     ∷ builds xorTwice 4 3 5 (1 ∷ 4 ∷ [])
     (lines
     ((on 1 ∷ on 1 ∷ off 2 ∷ []) ∷ (on 1 ∷ off 1 ∷ on 2 ∷ []) ∷ (off 1 ∷ on 1 ∷ on 2 ∷ [])
@@ -196,7 +214,8 @@ pub edges-hold :
     building (c .file) (c .arrivals) (c .target) (length (c .leaves .pairs)) (length (c .leaves .formula))) edges
     ≡ map (λ (c : Case). c .leaves) edges
 unfolding
-    edges everyKind targets orders lateInputs written oneGate circuitA xorTwice muxOfThree netlistRows arrivalRows
+    edges everyKind targets orders lateInputs muxOfBuffers written oneGate circuitA xorTwice muxOfThree netlistRows
+    arrivalRows
     firstWrong countWrong
     backWrong pinsBefore gateWrong gatePlace sumWrong pinsAt pinWrong pinPlace outputWrong outputPlace kinds kindRow
     tableBytes shapeOf gateAt pinAt pinsFrom cellOf cellAt netlistAt grow topsOf flat asked timesAt pairList flatPairs

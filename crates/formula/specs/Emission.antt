@@ -1,7 +1,7 @@
 -- What serves the code that writes the formula: the numbers that it puts one after the other, how far it has come, and
 -- how many numbers there can be.
 use mathlib.Core.Path.{_≡_}
-use mathlib.Core.Bool.{Bool, true, false, not, cond}
+use mathlib.Core.Bool.{Bool, true, false, not, _||_, cond}
 use mathlib.Core.List.{List, [], _∷_, _++_, map}
 use Prim.Native.Nat.{ℕ, suc, _+_, _*_, _/_, _≤_}
 use lib.Dec.{eqb, ltb}
@@ -111,6 +111,30 @@ shareRun Late c k own node late = codeRun true late
 shareRun Control c k own node late =
     cond (eqb late 1) []
     (((wants (false, own) ∷ []) ++ codeRun true late) ++ (wants (nodeIs node (not c)) ∷ ended ∷ []))
+
+-- a literal of a controlling cube: its driver late, by the code, or the driver not at the literal's value
+abbrev pub literalRun : ℕ → ℕ → Bool → List Token
+literalRun node late value = codeRun true late ++ (wants (nodeIs node (not value)) ∷ [])
+
+-- the clause of a cube of two literals, by the drivers' nodes and the codes of their being late
+abbrev pub cubeRun : ℕ → ℕ → ℕ → Bool → ℕ → ℕ → Bool → List Token
+cubeRun own x late a y later b =
+    cond (eqb late 1 || eqb later 1) []
+    ((((wants (false, own) ∷ []) ++ literalRun x late a) ++ literalRun y later b) ++ (ended ∷ []))
+
+-- that of entries i and j, by what was stored of them
+abbrev pub pairOfPins : ℕ → List ℕ → List ℕ → ℕ → Bool → ℕ → Bool → List Token
+pairOfPins own nodes lates i a j b = cubeRun own (getD nodes i 0) (getD lates i 0) a (getD nodes j 0) (getD lates j 0) b
+
+-- entry x at a and entry y at 0, then x at b and y at 1
+abbrev pub twoCubes : ℕ → List ℕ → List ℕ → ℕ → Bool → Bool → ℕ → List Token
+twoCubes own nodes lates x a b y = pairOfPins own nodes lates x a y false ++ pairOfPins own nodes lates x b y true
+
+-- a multiplexer's controlling cubes, of select, a and b (rule K6)
+abbrev pub muxRun : ℕ → List ℕ → List ℕ → List Token
+muxRun own nodes lates =
+    (twoCubes own nodes lates 0 false false 1 ++ twoCubes own nodes lates 0 true true 2)
+    ++ twoCubes own nodes lates 1 false true 2
 
 -- what so many drivers add, by what was stored of them
 abbrev pub sharesRun : Share → Bool → Bool → ℕ → List ℕ → List ℕ → ℕ → List Token

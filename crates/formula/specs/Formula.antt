@@ -8,7 +8,7 @@ use Rattle.basics.specs.Lists.{any, concatMap}
 use Rattle.netlist.specs.declared.Kind.{Kind}
 use Rattle.netlist.specs.declared.Kind.the-variants.{Simple, Parity, Mux}
 use Rattle.netlist.specs.Netlist.{Cell, Pin, nodes, nodeCount, Circuit}
-use Rattle.settle.specs.Settling.{topOf}
+use Rattle.settle.specs.Settling.{topOf, Cube, cubes}
 use Rattle.clauses.specs.Clauses.{Literal}
 use Rattle.pairs.specs.Pairs.{timesAt, pairsFor, pairPlace}
 
@@ -81,18 +81,18 @@ module _ {X : Type 0} (I : ℕ) (top : ℕ → ℕ) (node : ℕ → X) (pair : �
   abbrev pub driverLate : ℕ → Pin → Part X
   driverLate t p = late (p .driver) (t - p .delay)
 
-  -- a simple gate's further clauses, one a pin: not p, or the driver late, or the driver not at c (rule F12)
-  abbrev pub controlClauses : ℕ → Kind → List Pin → ℕ → List (List (Bool × X))
-  controlClauses f (Simple c k) ps t =
-      concatMap
-      (λ p. clauseOf (literal false (pair f t) ∷ driverLate t p ∷ literal (not c) (node (p .driver)) ∷ [])) ps
-  controlClauses f (Parity equal) ps t = []
-  controlClauses f Mux ps t = []
+  -- of a controlling cube's literal: its driver late, or the literal false
+  abbrev pub cubeParts : ℕ → Pin × Bool → List (Part X)
+  cubeParts t l = driverLate t (l .0) ∷ literal (not (l .1)) (node (l .0 .driver)) ∷ []
 
-  -- the clauses of a pair (rule F12): not p, or one of the drivers late, in pin order; then those of a simple gate
+  -- the clause of a controlling cube (rule F12): not p, or for some literal of the cube its driver late, or it is false
+  abbrev pub cubeClause : ℕ → ℕ → Cube Pin → List (List (Bool × X))
+  cubeClause f t cube = clauseOf (literal false (pair f t) ∷ concatMap (cubeParts t) cube)
+
+  -- the clauses of a pair (rule F12): not p, or one of the drivers late, in pin order; then one a controlling cube
   unfoldable pub pairClauses : ℕ → Kind → List Pin → ℕ → List (List (Bool × X))
   pairClauses f k ps t =
-      clauseOf (literal false (pair f t) ∷ map (driverLate t) ps) ++ controlClauses f k ps t
+      clauseOf (literal false (pair f t) ∷ map (driverLate t) ps) ++ concatMap (cubeClause f t) (cubes k ps)
 
   -- 1, 2 and 3 in order; `times` gives the times of a node's pairs, rising
   unfoldable pub formula : List (ℕ × Cell) → (ℕ → List ℕ) → List ℕ → ℕ → List (List (Bool × X))

@@ -1,25 +1,25 @@
 -- What serves the code that writes the pairs' clauses: lateness by what is lent to it, as one code, and what the
 -- code leans on.
 use mathlib.Core.Path.{_≡_}
-use mathlib.Core.Bool.{Bool, false, not}
+use mathlib.Core.Bool.{Bool, false}
 use mathlib.Core.List.{List, [], _∷_, _++_, map}
 use Prim.Native.Nat.{ℕ, suc, _+_, _-_, _*_, _/_, _≤_, _<_}
 use lib.Dec.{T}
 use lib.ListN.{length, getD, take}
 use Rattle.basics.specs.Lists.{any, concatMap, upFrom}
 use Rattle.netlist.specs.declared.Kind.{Kind}
-use Rattle.netlist.specs.declared.Kind.the-variants.{Simple, Parity, Mux}
 use Rattle.netlist.specs.declared.Shape.{Shape}
 use Rattle.netlist.specs.declared.Gate.{Gate}
 use Rattle.netlist.specs.Netlist.{Pin, takes}
 use Rattle.netlist.specs.File.{firstAt, countAt, driverAt, delayAt, outputAt, cellAt, netlistAt}
 use Rattle.clauses.specs.Codes.{literalCode}
+use Rattle.settle.specs.Settling.{Cube, cubes}
 use Rattle.pairs.specs.Pairs.{pairPlace}
 use Rattle.pairs.specs.Table.{pairsIn, pairAt, Sorted}
 use Rattle.pairs.specs.Promise.{Findable, Begins}
 use Rattle.formula.specs.declared.Side.{Side}
 use Rattle.formula.specs.declared.Side.the-variants.{Pins, Outputs}
-use Rattle.formula.specs.Formula.{Part, sure, never, literal, isSure, clauseOf, late, nodeVariable}
+use Rattle.formula.specs.Formula.{Part, sure, never, literal, isSure, clauseOf, late, cubeParts, nodeVariable}
 use Rattle.formula.specs.Emission.{Token, wants, tokensOf, cellRun, codeBound}
 
 -- ---- a part as one code
@@ -93,10 +93,13 @@ lateAt file l side t entry = lateIn l (nodeAt file (l .shape) side entry) (timeA
 abbrev pub pinLate : Lent → ℕ → Pin → Part ℕ
 pinLate l t p = lateIn l (p .driver) (t - p .delay)
 
--- one pin's further clause of a simple gate (rule F12), by the pair's variable
-abbrev pub pinControl : Lent → Bool → ℕ → ℕ → Pin → List Token
-pinControl l c pair t p =
-    tokensOf (clauseOf (literal false pair ∷ pinLate l t p ∷ literal (not c) (suc (p .driver)) ∷ []))
+-- the clause of a controlling cube (rule F12), by the pair's variable
+abbrev pub controlIn : Lent → ℕ → ℕ → Cube Pin → List Token
+controlIn l pair t cube =
+    tokensOf
+    (clauseOf
+    (literal false pair
+    ∷ concatMap (cubeParts (l .shape .inputs) (topIn (l .tops)) nodeVariable (variableIn l) t) cube))
 
 -- the first clause of a pair (rule F12)
 abbrev pub driversLate : Lent → ℕ → List Pin → ℕ → List Token
@@ -104,9 +107,7 @@ driversLate l pair pins t = tokensOf (clauseOf (literal false pair ∷ map (pinL
 
 -- the clauses of a pair with this variable, whose gate has this kind and these pins
 abbrev pub clausesIn : Lent → ℕ → Kind → List Pin → ℕ → List Token
-clausesIn l pair (Simple c k) pins t = driversLate l pair pins t ++ concatMap (pinControl l c pair t) pins
-clausesIn l pair (Parity equal) pins t = driversLate l pair pins t
-clausesIn l pair Mux pins t = driversLate l pair pins t
+clausesIn l pair kind pins t = driversLate l pair pins t ++ concatMap (controlIn l pair t) (cubes kind pins)
 
 -- the clauses of a gate by its number
 abbrev pub gateRun : List ℕ → Shape → ℕ → List Token

@@ -29,6 +29,10 @@ ghost use Rattle.formula.specs.Emission.{
   codeRun,
   nodeIs,
   shareRun,
+  literalRun,
+  pairOfPins,
+  twoCubes,
+  muxRun,
   sharesRun,
   simpleRun,
   lateRun,
@@ -645,6 +649,92 @@ fn all_gates(
 
 // ---- 2. each pair
 
+// A literal of a controlling cube: its driver late, or the driver not as it is wanted.
+fn put_literal_late(formula: &mut [i32], at: Emitted, driver: Asked, value: bool) -> Emitted
+    requires { ⌜ Fits 2 at × (driver .node < 65536) × (driver .late < codeBound) ⌝ }
+    ensures { λ r. ⌜
+        Emits 2 (literalRun (driver .node) (driver .late) value) (now (formula .entry)) at (now (formula .exit)) r
+        ⌝ }
+{
+    let part = put_part(formula, at, driver.late, true);
+    put_node(formula, part, driver.node, !value)
+}
+
+// The clause of a controlling cube of two literals, pin x at a and pin y at b: not the pair, or x late, or not at a,
+// or y late, or not at b. It is left out where a driver is late outright.
+fn cube_clause(
+    nodes: &[u16; 64],
+    lates: &[u32; 64],
+    pair: usize,
+    x: usize,
+    a: bool,
+    y: usize,
+    b: bool,
+    formula: &mut [i32],
+    at: Emitted,
+) -> Emitted
+    requires { ⌜ (x < 64) × (y < 64) × (pair < variableBound) × Fits 6 at ⌝ }
+    ensures { λ r. ⌜
+        Emits 6 (pairOfPins pair (now (nodes .entry)) (now (lates .entry)) x a y b) (now (formula .entry)) at
+        (now (formula .exit)) r
+        ⌝ }
+{
+    let one = asked_at(nodes, lates, x);
+    let two = asked_at(nodes, lates, y);
+    if one.late == 1 {
+        return at;
+    }
+    if two.late == 1 {
+        return at;
+    }
+    let negated = put_literal(formula, at, pair, false);
+    let first = put_literal_late(formula, negated, one, a);
+    let second = put_literal_late(formula, first, two, b);
+    put_end(formula, second)
+}
+
+// Two cubes: pin x at a and pin y at 0; pin x at b and pin y at 1.
+fn two_cubes(
+    nodes: &[u16; 64],
+    lates: &[u32; 64],
+    pair: usize,
+    x: usize,
+    a: bool,
+    b: bool,
+    y: usize,
+    formula: &mut [i32],
+    at: Emitted,
+) -> Emitted
+    requires { ⌜ (x < 64) × (y < 64) × (pair < variableBound) × Fits 12 at ⌝ }
+    ensures { λ r. ⌜
+        Emits 12 (twoCubes pair (now (nodes .entry)) (now (lates .entry)) x a b y) (now (formula .entry)) at
+        (now (formula .exit)) r
+        ⌝ }
+{
+    let one = cube_clause(nodes, lates, pair, x, a, y, false, formula, at);
+    cube_clause(nodes, lates, pair, x, b, y, true, formula, one)
+}
+
+// The clauses of a multiplexer's controlling cubes: select with the pin that it chooses, at 0 and at 1, then both data
+// pins alike.
+fn mux_control(
+    nodes: &[u16; 64],
+    lates: &[u32; 64],
+    pair: usize,
+    formula: &mut [i32],
+    at: Emitted,
+) -> Emitted
+    requires { ⌜ (pair < variableBound) × Fits 36 at ⌝ }
+    ensures { λ r. ⌜
+        Emits 36 (muxRun pair (now (nodes .entry)) (now (lates .entry))) (now (formula .entry)) at
+        (now (formula .exit)) r
+        ⌝ }
+{
+    let first = two_cubes(nodes, lates, pair, 0, false, false, 1, formula, at);
+    let second = two_cubes(nodes, lates, pair, 0, true, true, 2, formula, first);
+    two_cubes(nodes, lates, pair, 1, false, true, 2, formula, second)
+}
+
 // The clauses of a pair at time t with this variable, whose gate is this one.
 fn pair_clauses(
     file: &[u8],
@@ -707,7 +797,7 @@ fn pair_clauses(
             return late;
         }
         Kind::Mux => {
-            return late;
+            return mux_control(nodes, lates, pair, formula, late);
         }
     }
 }

@@ -2,7 +2,7 @@
 -- or later exactly when some pin is late and each controlling cube has a late or a false literal. It is an equation of
 -- Bools, by induction on the cubes, whatever they are. And locality: a gate's value and settling depend on its own pins
 -- alone. Laws: settles-late, last-late; settles-cong, gateValue-cong, last-cong, last-mono. Assumes nothing.
-use mathlib.Core.Path.{_≡_, refl, ap, ap₂, _∙_}
+use mathlib.Core.Path.{_≡_, refl, sym, ap, ap₂, _∙_}
 use mathlib.Core.Bool.{Bool, true, false, not, _&&_, _||_, Bool·beq, cond}
 use mathlib.Core.List.{List, [], _∷_, List·Memᴰ, List·Memᴰ·head, List·Memᴰ·tail}
 use Prim.Native.Nat.{ℕ, suc, _≤_, max, min}
@@ -14,9 +14,18 @@ use Rattle.basics.proofs.Lists.{any-cong}
 use Rattle.basics.proofs.Order.{leb-max, leb-min}
 use Rattle.netlist.specs.declared.Kind.{Kind}
 use Rattle.netlist.specs.declared.Kind.the-variants.{Simple, Parity, Mux}
-use Rattle.settle.specs.Settling.{atValue, last, first, firstOr, settles, gateValue}
-use Rattle.settle.specs.Cubes.{Cube, cubes, cubeHolds, cubeReady, earliest, literalHolds, literalLate, gateLate}
-use Rattle.settle.proofs.Cubes.{settles-cubes}
+use Rattle.settle.specs.Settling.{
+  Cube,
+  cubes,
+  literalHolds,
+  cubeHolds,
+  cubeReady,
+  last,
+  settles,
+  gateValue,
+}
+use Rattle.settle.specs.Cubes.{earliest, literalLate, gateLate}
+use Rattle.settle.proofs.Cubes.{cube-pin, settles-cubes}
 
 -- ---- the gate argument
 
@@ -93,53 +102,42 @@ module _ {P : Type 0} (r s : P → ℕ) where
   last-mono (p ∷ ps) h =
       let a = h p (List·Memᴰ·head refl) in let b = last-mono ps (λ q m. h q (List·Memᴰ·tail m)) in omega arith
 
-  first-cong : (p : P) (ps : List P) → ((q : P) → List·Memᴰ q (p ∷ ps) → r q ≡ s q) → first r p ps ≡ first s p ps
-  first-cong p [] h = h p (List·Memᴰ·head refl)
-  first-cong p (q ∷ qs) h = ap₂ min (h p (List·Memᴰ·head refl)) (first-cong q qs (λ x m. h x (List·Memᴰ·tail m)))
+module _ {P : Type 0} (v w : P → Bool) (r s : P → ℕ) where
+  -- what is the same of each pin of a cube is the same of the cube
+  holds-cong : (cube : Cube P) → ((l : P × Bool) → List·Memᴰ l cube → v (l .0) ≡ w (l .0)) →
+      cubeHolds v cube ≡ cubeHolds w cube
+  holds-cong [] h = refl
+  holds-cong (l ∷ cube) h =
+      ap₂ (λ (a b : Bool). Bool·beq a (l .1) && b) (h l (List·Memᴰ·head refl))
+      (holds-cong cube (λ k m. h k (List·Memᴰ·tail m)))
 
-  firstOr-cong : (ps : List P) (m n : ℕ) → m ≡ n → ((q : P) → List·Memᴰ q ps → r q ≡ s q) →
-      firstOr r ps m ≡ firstOr s ps n
-  firstOr-cong [] m n e h = e
-  firstOr-cong (p ∷ ps) m n e h = first-cong p ps h
+  ready-cong : (cube : Cube P) → ((l : P × Bool) → List·Memᴰ l cube → r (l .0) ≡ s (l .0)) →
+      cubeReady r cube ≡ cubeReady s cube
+  ready-cong [] h = refl
+  ready-cong (l ∷ cube) h = ap₂ max (h l (List·Memᴰ·head refl)) (ready-cong cube (λ k m. h k (List·Memᴰ·tail m)))
 
--- a list of pins that are all ready by m has its last ready by m
-pub last-within : {P : Type 0} (ready : P → ℕ) (ps : List P) (m : ℕ) → ((p : P) → List·Memᴰ p ps → ready p ≤ m) →
-    last ready ps ≤ m
-last-within ready [] m h = omega arith
-last-within ready (p ∷ ps) m h =
-    let a = h p (List·Memᴰ·head refl) in
-    let b = last-within ready ps m (λ q i. h q (List·Memᴰ·tail i)) in
-    omega arith
-
-module _ {P : Type 0} (value : P → Bool) where
-  -- the pins at c are pins
-  at-value-mem : (c : Bool) (ps : List P) (q : P) → List·Memᴰ q (atValue value c ps) → List·Memᴰ q ps
-  at-value-mem c [] q m = m
-  at-value-mem c (p ∷ ps) q m = go (Bool·beq (value p) c) m (λ i. at-value-mem c ps q i)
-    where
-      go : (h : Bool) → List·Memᴰ q (cond h (p ∷ atValue value c ps) (atValue value c ps)) →
-          (List·Memᴰ q (atValue value c ps) → List·Memᴰ q ps) → List·Memᴰ q (p ∷ ps)
-      go true (List·Memᴰ·head e) f = List·Memᴰ·head e
-      go true (List·Memᴰ·tail i) f = List·Memᴰ·tail (f i)
-      go false i f = List·Memᴰ·tail (f i)
+  earliest-cong : (some : List (Cube P)) {m n : ℕ} → m ≡ n →
+      ((cube : Cube P) → List·Memᴰ cube some → (l : P × Bool) → List·Memᴰ l cube →
+      (v (l .0) ≡ w (l .0)) × (r (l .0) ≡ s (l .0))) →
+      earliest v r some m ≡ earliest w s some n
+  unfolding earliest
+  earliest-cong [] e h = e
+  earliest-cong (cube ∷ rest) {m} {n} e h =
+      let own = h cube (List·Memᴰ·head refl) in
+      let more = earliest-cong rest e (λ d i. h d (List·Memᴰ·tail i)) in
+      ap₂ (λ (b : Bool) (t : ℕ). cond b (min t (earliest v r rest m)) (earliest v r rest m))
+      (holds-cong cube (λ l i. own l i .0)) (ready-cong cube (λ l i. own l i .1))
+      ∙ ap (λ (t : ℕ). cond (cubeHolds w cube) (min (cubeReady s cube) t) t) more
 
 module _ {P : Type 0} (v w : P → Bool) where
-  at-value-cong : (c : Bool) (ps : List P) → ((p : P) → List·Memᴰ p ps → v p ≡ w p) → atValue v c ps ≡ atValue w c ps
-  at-value-cong c [] h = refl
-  at-value-cong c (p ∷ ps) h =
-      ap₂ (λ (b : Bool) (l : List P). cond (Bool·beq b c) (p ∷ l) l) (h p (List·Memᴰ·head refl))
-      (at-value-cong c ps (λ q m. h q (List·Memᴰ·tail m)))
-
   -- a gate's settling depends on its pins' values and readiness alone
   pub settles-cong : (r s : P → ℕ) (kind : Kind) (ps : List P) → ((p : P) → List·Memᴰ p ps → v p ≡ w p) →
       ((p : P) → List·Memᴰ p ps → r p ≡ s p) → settles v r kind ps ≡ settles w s kind ps
-  unfolding settles
-  settles-cong r s (Simple c k) ps h e =
-      firstOr-cong r s (atValue v c ps) (last r ps) (last s ps) (last-cong r s ps e)
-      (λ q m. e q (at-value-mem v c ps q m))
-      ∙ ap (λ (l : List P). firstOr s l (last s ps)) (at-value-cong c ps h)
-  settles-cong r s (Parity equal) ps h e = last-cong r s ps e
-  settles-cong r s Mux ps h e = last-cong r s ps e
+  settles-cong r s kind ps h e =
+      settles-cubes v r kind ps
+      ∙ earliest-cong v w r s (cubes kind ps) (last-cong r s ps e)
+      (λ cube m l i. let p = cube-pin kind ps cube m l i in (h (l .0) p, e (l .0) p))
+      ∙ sym (settles-cubes w s kind ps)
 
   -- and its value on its pins' values
   pub gateValue-cong : (kind : Kind) (ps : List P) → ((p : P) → List·Memᴰ p ps → v p ≡ w p) →

@@ -34,13 +34,12 @@ use Rattle.settle.specs.Settling.{
   circuitTime,
 }
 use Rattle.settle.specs.Steps.{latest}
-use Rattle.settle.proofs.Cubes.{settles-last}
+use Rattle.settle.proofs.Cubes.{settles-last, last-within}
 use Rattle.settle.proofs.Argument.{
   settles-cong,
   gateValue-cong,
   last-cong,
   last-mono,
-  last-within,
   last-late,
 }
 use Rattle.settle.proofs.Grow.{grow-length, grow-keeps, grow-begins, grow-fixed}

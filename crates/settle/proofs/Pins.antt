@@ -2,12 +2,12 @@
 -- last to the first, as the definition's lists are built, so each turn of the loop is one step of the definition.
 -- Assumes nothing.
 use mathlib.Core.Path.{_≡_, refl, sym, ap, ap₂, _∙_, subst}
-use mathlib.Core.Bool.{Bool, true, false, not, _||_, Bool·beq, cond}
-use mathlib.Core.List.{List, [], _∷_}
+use mathlib.Core.Bool.{Bool, true, false, not, _&&_, _||_, Bool·beq, cond}
+use mathlib.Core.List.{List, [], _∷_, map}
 use Prim.Native.Nat.{ℕ, suc, _+_, _-_, _≤_, _<_, max, min}
 use native.Mathlib.Omega.{arith}
 use native.Mathlib.Numerals.{add-one}
-use Rattle.basics.specs.Lists.{any}
+use Rattle.basics.specs.Lists.{any, keep}
 use Rattle.basics.proofs.Truth.{by-table-of-three}
 use Rattle.netlist.specs.declared.Shape.{Shape}
 use Rattle.netlist.specs.declared.Kind.the-variants.{Simple, Parity, Mux}
@@ -16,8 +16,17 @@ use Rattle.netlist.specs.File.{pinAt, pinsFrom}
 use Rattle.netlist.proofs.Pins.{pins-next, pins-none}
 use Rattle.settle.specs.declared.Signal.{Signal}
 use Rattle.settle.specs.declared.Scan.{Scan}
-use Rattle.settle.specs.Settling.{gateValue, settles, atValue, last, first, firstOr}
-use Rattle.settle.specs.Steps.{pinValue, pinReady, pinSignal, gateSignal, withPin, scanOf, Wired}
+use Rattle.settle.specs.Settling.{Cube, cubeHolds, cubeReady, gateValue, settles, last, first, firstOr}
+use Rattle.settle.specs.Steps.{
+  pinValue,
+  pinReady,
+  pinSignal,
+  gateSignal,
+  chosenSignal,
+  withPin,
+  scanOf,
+  Wired,
+}
 
 -- one pin of those that are wired
 pub wired-pin : {file : List ℕ} {shape : Shape} {first count : ℕ} {values times : List ℕ} →
@@ -71,37 +80,76 @@ parity-gate values times equal p q =
     (λ c x y. cond x (not (cond y (not c) c)) (cond y (not c) c)) tt equal (pinValue values p) (pinValue values q))
     e
 
+-- ---- a multiplexer
+
 module _ (values times : List ℕ) (select a b : Pin) where
-  -- when the last of three pins is ready
-  last-of-three : max (pinReady times select) (max (pinReady times a) (pinReady times b))
-      ≡ last (pinReady times) (select ∷ a ∷ b ∷ [])
-  last-of-three = omega arith
+  abbrev ready : Pin → ℕ
+  ready = pinReady times
 
-  -- a multiplexer gives b when select is 1
-  pub mux-one : (signal : Signal) → signal ≡ pinSignal values times select → signal .value ≡ true →
-      record {
-        value = pinValue values b;
-        at = max (pinReady times select) (max (pinReady times a) (pinReady times b));
-      }
-      ≡ gateSignal values times Mux (select ∷ a ∷ b ∷ [])
-  unfolding gateSignal gateValue settles pinSignal
-  mux-one signal e s =
-      ap₂ (λ (v : Bool) (t : ℕ). record { value = v; at = t })
-      (ap (λ x. cond x (pinValue values b) (pinValue values a)) (sym s ∙ ap (λ (x : Signal). x .value) e))
-      last-of-three
+  -- a cube before others, where it holds
+  abbrev put : Bool → Pin × Bool → Pin × Bool → List (Cube Pin) → List (Cube Pin)
+  put h l m rest = cond h ((l ∷ m ∷ []) ∷ rest) rest
 
-  -- and a when it is 0
-  pub mux-zero : (signal : Signal) → signal ≡ pinSignal values times select → signal .value ≡ false →
+  -- the cubes that hold, by the values of select, a and b
+  abbrev holding : Bool → Bool → Bool → List (Cube Pin)
+  holding s x y =
+      put (Bool·beq s false && (Bool·beq x false && true)) (select, false) (a, false)
+      (put (Bool·beq s false && (Bool·beq x true && true)) (select, false) (a, true)
+      (put (Bool·beq s true && (Bool·beq y false && true)) (select, true) (b, false)
+      (put (Bool·beq s true && (Bool·beq y true && true)) (select, true) (b, true)
+      (put (Bool·beq x false && (Bool·beq y false && true)) (a, false) (b, false)
+      (put (Bool·beq x true && (Bool·beq y true && true)) (a, true) (b, true) [])))))
+
+  -- the signal that these cubes give
+  abbrev given : Bool → Bool → Bool → Signal
+  given s x y =
       record {
-        value = pinValue values a;
-        at = max (pinReady times select) (max (pinReady times a) (pinReady times b));
+        value = cond s y x;
+        at = firstOr (cubeReady ready) (holding s x y) (last ready (select ∷ a ∷ b ∷ []));
       }
+
+  abbrev signal : Bool → Pin → Signal
+  signal v p = record { value = v; at = ready p }
+
+  -- select 1 chooses b
+  chooses-b : (x y : Bool) → chosenSignal (ready select) (signal y b) (signal x a) ≡ given true x y
+  unfolding chosenSignal
+  chooses-b true true = ap (λ (t : ℕ). record { value = true; at = t }) (ap₂ min (omega arith) (omega arith))
+  chooses-b true false = ap (λ (t : ℕ). record { value = false; at = t }) (omega arith)
+  chooses-b false true = ap (λ (t : ℕ). record { value = true; at = t }) (omega arith)
+  chooses-b false false = ap (λ (t : ℕ). record { value = false; at = t }) (ap₂ min (omega arith) (omega arith))
+
+  -- select 0 chooses a
+  chooses-a : (x y : Bool) → chosenSignal (ready select) (signal x a) (signal y b) ≡ given false x y
+  unfolding chosenSignal
+  chooses-a true true = ap (λ (t : ℕ). record { value = true; at = t }) (ap₂ min (omega arith) (omega arith))
+  chooses-a true false = ap (λ (t : ℕ). record { value = true; at = t }) (omega arith)
+  chooses-a false true = ap (λ (t : ℕ). record { value = false; at = t }) (omega arith)
+  chooses-a false false = ap (λ (t : ℕ). record { value = false; at = t }) (ap₂ min (omega arith) (omega arith))
+
+  -- and the cubes that hold are those of the gate
+  mux-given : given (pinValue values select) (pinValue values a) (pinValue values b)
       ≡ gateSignal values times Mux (select ∷ a ∷ b ∷ [])
-  unfolding gateSignal gateValue settles pinSignal
-  mux-zero signal e s =
-      ap₂ (λ (v : Bool) (t : ℕ). record { value = v; at = t })
-      (ap (λ x. cond x (pinValue values b) (pinValue values a)) (sym s ∙ ap (λ (x : Signal). x .value) e))
-      last-of-three
+  unfolding gateSignal gateValue settles
+  mux-given = refl
+
+  pub mux-one : pinValue values select ≡ true →
+      chosenSignal (ready select) (pinSignal values times b) (pinSignal values times a)
+      ≡ gateSignal values times Mux (select ∷ a ∷ b ∷ [])
+  unfolding pinSignal
+  mux-one e =
+      chooses-b (pinValue values a) (pinValue values b)
+      ∙ ap (λ (s : Bool). given s (pinValue values a) (pinValue values b)) (sym e)
+      ∙ mux-given
+
+  pub mux-zero : pinValue values select ≡ false →
+      chosenSignal (ready select) (pinSignal values times a) (pinSignal values times b)
+      ≡ gateSignal values times Mux (select ∷ a ∷ b ∷ [])
+  unfolding pinSignal
+  mux-zero e =
+      chooses-a (pinValue values a) (pinValue values b)
+      ∙ ap (λ (s : Bool). given s (pinValue values a) (pinValue values b)) (sym e)
+      ∙ mux-given
 
 -- ---- a simple gate
 
@@ -120,27 +168,32 @@ module _ (values times : List ℕ) (c : Bool) where
   scan-last [] = refl
   scan-last (p ∷ ps) = ap (max (pinReady times p)) (scan-last ps)
 
+  -- the cubes that hold: each pin at c by itself
+  abbrev held : List Pin → List (Cube Pin)
+  held ps = keep (cubeHolds (pinValue values)) (map (λ p. (p, c) ∷ []) ps)
+
   -- the first of the pins at c; `otherwise` where there is none
   scan-first : (ps : List Pin) (otherwise : ℕ) →
       cond (scanOf values times c ps .some) (scanOf values times c ps .first) otherwise
-      ≡ firstOr (pinReady times) (atValue (pinValue values) c ps) otherwise
+      ≡ firstOr (cubeReady (pinReady times)) (held ps) otherwise
   unfolding scanOf withPin
   scan-first [] otherwise = refl
   scan-first (p ∷ ps) otherwise =
-      go (isAt p) (scanOf values times c ps .some) (scanOf values times c ps .first) (atValue (pinValue values) c ps)
-      (λ m. scan-first ps m)
+      go (isAt p) (scanOf values times c ps .some) (scanOf values times c ps .first) (held ps) (λ m. scan-first ps m)
     where
-      least : (x : Bool) (f : ℕ) (qs : List Pin) →
-          ((m : ℕ) → cond x f m ≡ firstOr (pinReady times) qs m) →
-          cond x (min (pinReady times p) f) (pinReady times p) ≡ first (pinReady times) p qs
+      least : (x : Bool) (f : ℕ) (qs : List (Cube Pin)) →
+          ((m : ℕ) → cond x f m ≡ firstOr (cubeReady (pinReady times)) qs m) →
+          cond x (min (pinReady times p) f) (pinReady times p)
+          ≡ first (cubeReady (pinReady times)) ((p, c) ∷ []) qs
       least true f [] e = let a = e 0 in let b = e 1 in absurd (omega arith)
-      least true f (q ∷ qs) e = ap (min (pinReady times p)) (e 0)
-      least false f [] e = refl
+      least true f (q ∷ qs) e = let a = e 0 in omega arith
+      least false f [] e = omega arith
       least false f (q ∷ qs) e = let a = e 0 in let b = e 1 in absurd (omega arith)
 
-      go : (h x : Bool) (f : ℕ) (qs : List Pin) → ((m : ℕ) → cond x f m ≡ firstOr (pinReady times) qs m) →
+      go : (h x : Bool) (f : ℕ) (qs : List (Cube Pin)) →
+          ((m : ℕ) → cond x f m ≡ firstOr (cubeReady (pinReady times)) qs m) →
           cond (h || x) (cond h (cond x (min (pinReady times p) f) (pinReady times p)) f) otherwise
-          ≡ firstOr (pinReady times) (cond h (p ∷ qs) qs) otherwise
+          ≡ firstOr (cubeReady (pinReady times)) (cond (h && true) (((p, c) ∷ []) ∷ qs) qs) otherwise
       go true x f qs e = least x f qs e
       go false x f qs e = e otherwise
 

@@ -72,14 +72,14 @@ cases =
     ∷ case circuitA (1 ∷ 1 ∷ []) (settlesAt 1 (1 ∷ 1 ∷ 1 ∷ 1 ∷ 1 ∷ []) (0 ∷ 0 ∷ 3 ∷ 4 ∷ 1 ∷ []))
     ∷ case xorTwice (0 ∷ []) (settlesAt 4 (0 ∷ 0 ∷ []) (0 ∷ 4 ∷ []))
     ∷ case xorTwice (1 ∷ []) (settlesAt 4 (1 ∷ 0 ∷ []) (0 ∷ 4 ∷ []))
-    ∷ case muxOfThree (0 ∷ 0 ∷ 0 ∷ []) (settlesAt 9 (0 ∷ 0 ∷ 0 ∷ 0 ∷ []) (0 ∷ 0 ∷ 0 ∷ 9 ∷ []))
+    ∷ case muxOfThree (0 ∷ 0 ∷ 0 ∷ []) (settlesAt 2 (0 ∷ 0 ∷ 0 ∷ 0 ∷ []) (0 ∷ 0 ∷ 0 ∷ 2 ∷ []))
     ∷ case muxOfThree (0 ∷ 0 ∷ 1 ∷ []) (settlesAt 9 (0 ∷ 0 ∷ 1 ∷ 0 ∷ []) (0 ∷ 0 ∷ 0 ∷ 9 ∷ []))
     ∷ case muxOfThree (0 ∷ 1 ∷ 0 ∷ []) (settlesAt 9 (0 ∷ 1 ∷ 0 ∷ 1 ∷ []) (0 ∷ 0 ∷ 0 ∷ 9 ∷ []))
-    ∷ case muxOfThree (0 ∷ 1 ∷ 1 ∷ []) (settlesAt 9 (0 ∷ 1 ∷ 1 ∷ 1 ∷ []) (0 ∷ 0 ∷ 0 ∷ 9 ∷ []))
-    ∷ case muxOfThree (1 ∷ 0 ∷ 0 ∷ []) (settlesAt 9 (1 ∷ 0 ∷ 0 ∷ 0 ∷ []) (0 ∷ 0 ∷ 0 ∷ 9 ∷ []))
+    ∷ case muxOfThree (0 ∷ 1 ∷ 1 ∷ []) (settlesAt 2 (0 ∷ 1 ∷ 1 ∷ 1 ∷ []) (0 ∷ 0 ∷ 0 ∷ 2 ∷ []))
+    ∷ case muxOfThree (1 ∷ 0 ∷ 0 ∷ []) (settlesAt 2 (1 ∷ 0 ∷ 0 ∷ 0 ∷ []) (0 ∷ 0 ∷ 0 ∷ 2 ∷ []))
     ∷ case muxOfThree (1 ∷ 0 ∷ 1 ∷ []) (settlesAt 9 (1 ∷ 0 ∷ 1 ∷ 1 ∷ []) (0 ∷ 0 ∷ 0 ∷ 9 ∷ []))
     ∷ case muxOfThree (1 ∷ 1 ∷ 0 ∷ []) (settlesAt 9 (1 ∷ 1 ∷ 0 ∷ 0 ∷ []) (0 ∷ 0 ∷ 0 ∷ 9 ∷ []))
-    ∷ case muxOfThree (1 ∷ 1 ∷ 1 ∷ []) (settlesAt 9 (1 ∷ 1 ∷ 1 ∷ 1 ∷ []) (0 ∷ 0 ∷ 0 ∷ 9 ∷ [])) ∷ []
+    ∷ case muxOfThree (1 ∷ 1 ∷ 1 ∷ []) (settlesAt 2 (1 ∷ 1 ∷ 1 ∷ 1 ∷ []) (0 ∷ 0 ∷ 0 ∷ 2 ∷ [])) ∷ []
 
 -- with late inputs (they stand in the table by Edges): circuit A with b at 4, on each vector, and with a at 9,999; an
 -- input that is an output and arrives at 7

@@ -1,9 +1,9 @@
 -- Section S of the rules, rule by rule, and what a gate gives (rules K2 to K4). Interface: all of it.
-use mathlib.Core.Bool.{Bool, false, not, Bool·beq, cond}
-use mathlib.Core.List.{List, [], _∷_, _++_}
+use mathlib.Core.Bool.{Bool, true, false, not, Bool·beq, cond}
+use mathlib.Core.List.{List, [], _∷_, _++_, map}
 use Prim.Native.Nat.{ℕ, _+_, max, min}
 use lib.ListN.{getD}
-use Rattle.basics.specs.Lists.{any}
+use Rattle.basics.specs.Lists.{any, all, keep}
 use Rattle.netlist.specs.declared.Kind.{Kind}
 use Rattle.netlist.specs.declared.Kind.the-variants.{Simple, Parity, Mux}
 use Rattle.netlist.specs.Netlist.{Netlist, Circuit, Cell, Pin}
@@ -11,11 +11,6 @@ use Rattle.netlist.specs.Netlist.{Netlist, Circuit, Cell, Pin}
 -- ---- one gate, over any kind of pins: what `value` a pin has, and when it is `ready`
 
 module _ {P : Type 0} (value : P → Bool) where
-  -- the pins that are at c
-  abbrev pub atValue : Bool → List P → List P
-  atValue c [] = []
-  atValue c (p ∷ ps) = cond (Bool·beq (value p) c) (p ∷ atValue c ps) (atValue c ps)
-
   -- some pin at c gives k, none its opposite (rule K2); equal pins give a parity gate's own value (rules K3 and K5);
   -- MUX passes a on for select 0 and b for select 1 (rule K4). MUX has three pins: it is never asked with fewer
   unfoldable pub gateValue : Kind → List P → Bool
@@ -43,12 +38,43 @@ module _ {P : Type 0} (ready : P → ℕ) where
   firstOr [] otherwise = otherwise
   firstOr (p ∷ ps) otherwise = first p ps
 
--- A simple gate with pins at c settles as soon as the earliest of these is ready, one without once all its pins are
--- (rule S3); XOR, XNOR and MUX settle once all their pins are (rule S4).
+-- a cube (rule K6): pins, each with the value that it must have; one such pair is a literal
+abbrev pub Cube : Type 0 → Type 0
+Cube P = List (P × Bool)
+
+-- the controlling cubes of a gate, in the order of their clauses (rule K6): of a simple gate, each pin at c; of MUX,
+-- select with the pin that it chooses, at 0 and at 1, and both data pins alike
+abbrev pub cubes : {P : Type 0} → Kind → List P → List (Cube P)
+cubes (Simple c k) ps = map (λ p. (p, c) ∷ []) ps
+cubes (Parity equal) ps = []
+cubes Mux [] = []
+cubes Mux (select ∷ []) = []
+cubes Mux (select ∷ a ∷ []) = []
+cubes Mux (select ∷ a ∷ b ∷ ps) =
+    ((select, false) ∷ (a, false) ∷ [])
+    ∷ ((select, false) ∷ (a, true) ∷ [])
+    ∷ ((select, true) ∷ (b, false) ∷ [])
+    ∷ ((select, true) ∷ (b, true) ∷ [])
+    ∷ ((a, false) ∷ (b, false) ∷ [])
+    ∷ ((a, true) ∷ (b, true) ∷ []) ∷ []
+
+-- the pin has the literal's value
+abbrev pub literalHolds : {P : Type 0} → (P → Bool) → P × Bool → Bool
+literalHolds value l = Bool·beq (value (l .0)) (l .1)
+
+-- each pin of the cube has its value
+abbrev pub cubeHolds : {P : Type 0} → (P → Bool) → Cube P → Bool
+cubeHolds value cube = all (literalHolds value) cube
+
+-- when the cube's last pin is ready
+abbrev pub cubeReady : {P : Type 0} → (P → ℕ) → Cube P → ℕ
+cubeReady ready cube = last ready (map (λ l. l .0) cube)
+
+-- A gate settles as soon as the earliest of its controlling cubes that hold is ready; one of which none holds, and one
+-- that has none, XOR and XNOR, once all its pins are (rules S3 and S4).
 unfoldable pub settles : {P : Type 0} → (P → Bool) → (P → ℕ) → Kind → List P → ℕ
-settles value ready (Simple c k) ps = firstOr ready (atValue value c ps) (last ready ps)
-settles value ready (Parity equal) ps = last ready ps
-settles value ready Mux ps = last ready ps
+settles value ready kind ps =
+    firstOr (cubeReady ready) (keep (cubeHolds value) (cubes kind ps)) (last ready ps)
 
 -- ---- all nodes of a netlist
 

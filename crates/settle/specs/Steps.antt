@@ -36,6 +36,16 @@ unfoldable pub gateSignal : List ℕ → List ℕ → Kind → List Pin → Sign
 gateSignal values times kind ps =
     record { value = gateValue (pinValue values) kind ps; at = settles (pinValue values) (pinReady times) kind ps }
 
+-- the data pin that a multiplexer's select chooses, beside the other one
+unfoldable pub chosenSignal : ℕ → Signal → Signal → Signal
+chosenSignal select chosen other =
+    record {
+      value = chosen .value;
+      at =
+          cond (Bool·beq (chosen .value) (other .value))
+          (min (max select (chosen .at)) (max (chosen .at) (other .at))) (max select (chosen .at));
+    }
+
 -- one pin more, at c or not: whether some pin is at c, when the first of those is ready, and when the last of all is
 unfoldable pub withPin : Scan → Bool → ℕ → Scan
 withPin scan controls ready =

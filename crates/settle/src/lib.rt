@@ -19,7 +19,7 @@ ghost use Rattle.settle.specs.Settling.{last};
 ghost use Rattle.refusal.specs.Rows.{checked};
 ghost use Rattle.settle.specs.Promise.{Meets, bits, refused, settled};
 ghost use Rattle.settle.specs.Promise.{givenRows, evaluationOf, evaluation};
-ghost use Rattle.settle.specs.Steps.{pinSignal, gateSignal, withPin};
+ghost use Rattle.settle.specs.Steps.{pinSignal, gateSignal, chosenSignal, withPin};
 ghost use Rattle.settle.specs.Steps.{Wired, Begun, Done, Usable};
 
 // The circuit's settling time, or a refusal.
@@ -159,8 +159,25 @@ fn parity_signal(
     }
 }
 
-// A multiplexer of three pins from `first` on: it passes a on for select 0 and b for select 1, once all three are
-// ready.
+// A multiplexer's data pin that select chooses, beside the other one: it passes the chosen one on once this and select
+// are ready; where the two agree, once they both are, if that is earlier.
+fn chosen_signal(select: u32, chosen: Signal, other: Signal) -> Signal
+    ensures { λ r. ⌜ r ≡ chosenSignal select chosen other ⌝ }
+{
+    let own = later(select, chosen.at);
+    if chosen.value == other.value {
+        return Signal {
+            value: chosen.value,
+            at: earlier(own, later(chosen.at, other.at)),
+        };
+    }
+    Signal {
+        value: chosen.value,
+        at: own,
+    }
+}
+
+// A multiplexer of three pins from `first` on: it passes a on for select 0 and b for select 1.
 fn mux_signal(file: &[u8], shape: Shape, first: usize, values: &[u8], times: &[u32]) -> Signal
     requires { ⌜ Wired (now file) shape first 3 (now values) (now times) ⌝ }
     ensures { λ r. ⌜
@@ -170,17 +187,10 @@ fn mux_signal(file: &[u8], shape: Shape, first: usize, values: &[u8], times: &[u
     let select = pin_signal(file, shape, first, values, times);
     let a = pin_signal(file, shape, first + 1, values, times);
     let b = pin_signal(file, shape, first + 2, values, times);
-    let last = later(select.at, later(a.at, b.at));
     if select.value {
-        return Signal {
-            value: b.value,
-            at: last,
-        };
+        return chosen_signal(select.at, b, a);
     }
-    Signal {
-        value: a.value,
-        at: last,
-    }
+    chosen_signal(select.at, a, b)
 }
 
 // A gate of any kind, over the nodes before it.

@@ -1,10 +1,11 @@
 -- `formula::pair_clauses` meets its contract: the kind decides whether control clauses follow. Assumes nothing.
-use mathlib.Core.Path.{ap₂}
-use mathlib.Core.List.{List, _++_}
+use mathlib.Core.Path.{sym, ap₂, _∙_}
+use mathlib.Core.List.{List, _++_, append-nil}
 use native.Mathlib.Omega.{arith}
 use Rattle.formula.specs.Emission.{Token, gateMost}
 use Rattle.formula.proofs.Emission.{emits-then, emits-as}
-use Rattle.formula.proofs.Asking.{late-drivers, control-read}
+use Rattle.netlist.proofs.Valid.{takes-mux}
+use Rattle.formula.proofs.Asking.{late-drivers, control-read, mux-control-read}
 use borrow.Author.Needs.{needs}
 use Rattle.formula.proofs.pair_clauses.Statement.{statement}
 use Rattle.formula.proofs.pair_clauses.Tie as tie
@@ -43,7 +44,8 @@ returns c =
       rw (kind .kind .given .1)
           (emits-as gateMost (emits-then (late .late-clause .ensures) (c .before .put-shares .ensures))
           (ap₂ (λ (x y : List Token). x ++ y) (late-drivers (read .read-asked .ensures) (s .args .pair) (s .pre .3))
-          (control-read (read .read-asked .ensures) (kind .kind .given .0 .0) (s .args .pair)))
+          (control-read (read .read-asked .ensures) (kind .kind .given .0 .0) (kind .kind .given .0 .1 .0)
+          (s .args .pair)))
           (omega (arith, s .pre .2 .few))),
       read .read-asked .ensures .long,
     )
@@ -61,24 +63,42 @@ returns-2 c =
     let s = start read in (
       rw (c .enum-told .given .1)
           (emits-as gateMost (late .late-clause .ensures)
-          (late-drivers (read .read-asked .ensures) (s .args .pair) (s .pre .3)) (omega (arith, s .pre .2 .few))),
+          (late-drivers (read .read-asked .ensures) (s .args .pair) (s .pre .3) ∙ sym (append-nil _))
+          (omega (arith, s .pre .2 .few))),
       read .read-asked .ensures .long,
     )
 
 enum-told-2 : tie.Need-enum-told-2
 enum-told-2 c = search needs
 
+mux-control-requires : tie.Need-mux-control-requires
+mux-control-requires c κs =
+    let told = c .before .before .before in
+    let late = told .before .before .before in
+    let s = start (reading late) in
+    let three = takes-mux _ (told .enum-told2 .given .1) (s .pre .2 .takes-all) in (
+      s .pre .4,
+      record {
+        place = omega (arith, s .pre .5 .place, late .late-clause .ensures .few);
+        fewer = late .late-clause .ensures .fewer;
+      },
+    )
+
 same-length-3 : tie.Need-same-length-3
 same-length-3 c = search needs
 
 returns-3 : tie.Need-returns-3
 returns-3 c =
-    let late = c .before .before .before in
+    let told = c .before .before .before .before .before in
+    let late = told .before .before .before in
     let read = reading late in
-    let s = start read in (
-      rw (c .enum-told2 .given .1)
-          (emits-as gateMost (late .late-clause .ensures)
-          (late-drivers (read .read-asked .ensures) (s .args .pair) (s .pre .3)) (omega (arith, s .pre .2 .few))),
+    let s = start read in
+    let three = takes-mux _ (told .enum-told2 .given .1) (s .pre .2 .takes-all) in (
+      rw (told .enum-told2 .given .1)
+          (emits-as gateMost (emits-then (late .late-clause .ensures) (c .before .mux-control .ensures))
+          (ap₂ (λ (x y : List Token). x ++ y) (late-drivers (read .read-asked .ensures) (s .args .pair) (s .pre .3))
+          (mux-control-read (read .read-asked .ensures) (s .args .pair) three))
+          (omega arith)),
       read .read-asked .ensures .long,
     )
 
@@ -97,5 +117,6 @@ pair-clauses-spec =
     same-length-2
     returns-2
     enum-told-2
+    mux-control-requires
     same-length-3
     returns-3)

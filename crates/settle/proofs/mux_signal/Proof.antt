@@ -26,39 +26,41 @@ pin-signal-requires-3 c κs =
     let s = c .before .before .before .before .before in
     L.wired-pin (s .pre) (s .args .first + 2) (omega arith) (omega arith)
 
-later-requires : tie.Need-later-requires
-later-requires c κs = search needs
-
-later-requires-2 : tie.Need-later-requires-2
-later-requires-2 c κs = search needs
+chosen-signal-requires : tie.Need-chosen-signal-requires
+chosen-signal-requires c κs = search needs
 
 returns : tie.Need-returns
 unfolding pinSignal
 returns c =
-    let select = c .before .before .before .before .before .pin-signal in
+    let b = c .before .before in
+    let a = b .before in
+    let select = a .before in
     rw (
-      c .before .later2 .ensures,
-      c .before .before .later .ensures,
-      select .ensures,
-      c .before .before .before .before .pin-signal2 .ensures,
-      c .before .before .before .pin-signal3 .ensures,
+      c .chosen-signal .ensures,
+      b .pin-signal3 .ensures,
+      a .pin-signal2 .ensures,
+      select .pin-signal .ensures,
       L.three-pins,
     )
-    (L.mux-one _ _ _ _ _ (select .result) (select .ensures) (c .if1 .taken))
+    (L.mux-one _ _ _ _ _ (rw (select .pin-signal .ensures) at (c .before .if1 .taken)))
+
+chosen-signal-requires-2 : tie.Need-chosen-signal-requires-2
+chosen-signal-requires-2 c κs = search needs
 
 returns-2 : tie.Need-returns-2
 unfolding pinSignal
 returns-2 c =
-    let select = c .before .before .before .before .before .pin-signal in
+    let b = c .before .before in
+    let a = b .before in
+    let select = a .before in
     rw (
-      c .before .later2 .ensures,
-      c .before .before .later .ensures,
-      select .ensures,
-      c .before .before .before .before .pin-signal2 .ensures,
-      c .before .before .before .pin-signal3 .ensures,
+      c .chosen-signal2 .ensures,
+      b .pin-signal3 .ensures,
+      a .pin-signal2 .ensures,
+      select .pin-signal .ensures,
       L.three-pins,
     )
-    (L.mux-zero _ _ _ _ _ (select .result) (select .ensures) (c .if1 .left))
+    (L.mux-zero _ _ _ _ _ (rw (select .pin-signal .ensures) at (c .before .if1 .left)))
 
 pub mux-signal-spec : {M : Type 1} → statement M
 mux-signal-spec =
@@ -69,7 +71,7 @@ mux-signal-spec =
     pin-signal-requires-2
     add-pin-signal-2
     pin-signal-requires-3
-    later-requires
-    later-requires-2
+    chosen-signal-requires
     returns
+    chosen-signal-requires-2
     returns-2)
