@@ -195,7 +195,7 @@ class Library:
         streams = [(os.POSIX_SPAWN_DUP2, its_input, 0), (os.POSIX_SPAWN_DUP2, its_output, 1),
                    (os.POSIX_SPAWN_OPEN, 2, os.devnull, os.O_WRONLY, 0)]
         try:
-            # A session of its own: an interrupt at the terminal is the command's to handle.
+            # Out of the reach of the terminal: an interrupt there is the command's to handle.
             self.process = Process(command, streams, own_session=True)
         except OSError as error:
             raise OfTheMachine(f"the host {command[-1]} does not start: {error.strerror}") from None
