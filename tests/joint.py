@@ -47,10 +47,9 @@ Text = namedtuple("Text", "path old new")
 LAST = "lastRow (clausesOf refutation)"
 ROOM = "roomRow (suc variables) room"
 
-NOR = Joint("NOR's k is 1", "settle", "specs/Edges.antt", (
-    Text("netlist/specs/Kinds.antt", "pins 2 8 (Simple true false)", "pins 2 8 (Simple true true)"),
-    Text("netlist/src/lib.rt", "0x0100110100", "0x0101110100"),
-    Text("netlist/proofs/KindTable.antt", "0x0100110100", "0x0101110100"),
+NOR = Joint("a pin at 0 decides NOR", "settle", "specs/Edges.antt", (
+    Text("netlist/specs/Kinds.antt", "controlling kind = ltb 4 kind", "controlling kind = eqb kind 5"),
+    Text("netlist/src/lib.rt", "let c = 4 < kind;", "let c = kind == 5;"),
 ))
 
 ROOM_FIRST = Joint("room for propagation is asked before LAST", "refute", "proofs/Edges.antt", (

@@ -2,7 +2,7 @@
 -- Assumes nothing.
 use mathlib.Core.Path.{_≡_, refl}
 use mathlib.Core.List.{map, List·Memᴰ}
-use Rattle.netlist.specs.Kinds.{kinds, kindRow}
+use Rattle.netlist.specs.Kinds.{pinsFit, kindOf}
 use Rattle.netlist.specs.File.{tableBytes, shapeOf, gateAt, pinAt, cellOf, cellAt, netlistAt, pinsFrom}
 use Rattle.netlist.specs.Open.{
   netlistRows,
@@ -39,7 +39,7 @@ computed : map answerTo edges ≡ map (λ (c : Case). c .answer) edges
 unfolding
     edges faults lateInputs wire circuitA written oneGate netlistRows arrivalRows firstWrong countWrong backWrong
     pinsBefore gateWrong gatePlace sumWrong
-    pinsAt pinWrong pinPlace outputWrong outputPlace kinds kindRow tableBytes shapeOf gateAt pinAt pinsFrom cellOf
+    pinsAt pinWrong pinPlace outputWrong outputPlace pinsFit kindOf tableBytes shapeOf gateAt pinAt pinsFrom cellOf
     cellAt netlistAt gateValue settles grow valuesOf timesOf topsOf circuitTime givenRows flat clausesFrom
     isTrue isFree assign say pass refutes assert follows verdict refutationForm firstBeyond ended lastRow firstEmpty
     asked timesAt pairList pairPlace pairsFor clauseOf gateClauses late pairClauses formula pairVariable formulaFor

@@ -8,7 +8,7 @@ use native.Mathlib.Omega.{arith}
 use lib.IntN.{ℤ}
 use Rattle.basics.proofs.Lists.{map-each}
 use Rattle.netlist.specs.Netlist.{Circuit}
-use Rattle.netlist.specs.Kinds.{kinds, kindRow}
+use Rattle.netlist.specs.Kinds.{pinsFit, kindOf}
 use Rattle.netlist.specs.File.{tableBytes, shapeOf, gateAt, pinAt, cellOf, cellAt, netlistAt, pinsFrom, circuitOf}
 use Rattle.netlist.specs.Open.{
   netlistRows,
@@ -151,7 +151,7 @@ computed : map answerTo cases ≡ map (λ (c : Case). c .answer) cases
 unfolding
     cases circuitA wire netlistRows arrivalRows firstWrong countWrong backWrong pinsBefore gateWrong gatePlace
     sumWrong pinsAt
-    pinWrong pinPlace outputWrong outputPlace kinds kindRow tableBytes shapeOf gateAt pinAt pinsFrom cellOf cellAt
+    pinWrong pinPlace outputWrong outputPlace pinsFit kindOf tableBytes shapeOf gateAt pinAt pinsFrom cellOf cellAt
     netlistAt gateValue settles grow valuesOf timesOf topsOf circuitTime givenRows flat clausesFrom
     isTrue isFree assign say pass refutes assert follows verdict refutationForm firstBeyond ended lastRow firstEmpty
     asked timesAt pairList pairPlace pairsFor clauseOf gateClauses late pairClauses formula pairVariable

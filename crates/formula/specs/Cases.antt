@@ -7,7 +7,7 @@ use Prim.Native.Nat.{ℕ}
 use lib.IntN.{ℤ, pos, negsuc}
 use lib.ListN.{replicate}
 use Rattle.refusal.specs.declared.Refusal.the-variants.{Pairs, Room}
-use Rattle.netlist.specs.Kinds.{kinds, kindRow}
+use Rattle.netlist.specs.Kinds.{pinsFit, kindOf}
 use Rattle.netlist.specs.File.{tableBytes, shapeOf, gateAt, pinAt, cellOf, cellAt, netlistAt, pinsFrom}
 use Rattle.netlist.specs.Open.{
   netlistRows,
@@ -116,7 +116,7 @@ pub hold : map (λ (c : Case). building circuitA (0 ∷ 0 ∷ []) (c .target) (c
 unfolding
     circuitA netlistRows arrivalRows firstWrong countWrong backWrong pinsBefore gateWrong gatePlace sumWrong pinsAt
     pinWrong
-    pinPlace outputWrong outputPlace kinds kindRow tableBytes shapeOf gateAt pinAt pinsFrom cellOf cellAt
+    pinPlace outputWrong outputPlace pinsFit kindOf tableBytes shapeOf gateAt pinAt pinsFrom cellOf cellAt
     netlistAt grow topsOf flat asked timesAt pairList flatPairs pairsFor pairPlace clauseOf gateClauses late pairClauses
     formula pairVariable formulaFor numbersFor countsFor built buildingRows building printed gateLines cases
 hold = refl

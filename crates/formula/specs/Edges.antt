@@ -9,7 +9,7 @@ use lib.ListN.{length, replicate}
 use Rattle.basics.specs.Lists.{concatMap}
 use Rattle.refusal.specs.declared.Refusal.{Refusal}
 use Rattle.refusal.specs.declared.Refusal.the-variants.{Short, Gate, Output, Arrival, Pairs, Room}
-use Rattle.netlist.specs.Kinds.{kinds, kindRow}
+use Rattle.netlist.specs.Kinds.{pinsFit, kindOf}
 use Rattle.netlist.specs.File.{inputs, tableBytes, shapeOf, gateAt, pinAt, cellOf, cellAt, netlistAt, pinsFrom}
 use Rattle.netlist.specs.Open.{
   netlistRows,
@@ -217,7 +217,7 @@ unfolding
     edges everyKind targets orders lateInputs muxOfBuffers written oneGate circuitA xorTwice muxOfThree netlistRows
     arrivalRows
     firstWrong countWrong
-    backWrong pinsBefore gateWrong gatePlace sumWrong pinsAt pinWrong pinPlace outputWrong outputPlace kinds kindRow
+    backWrong pinsBefore gateWrong gatePlace sumWrong pinsAt pinWrong pinPlace outputWrong outputPlace pinsFit kindOf
     tableBytes shapeOf gateAt pinAt pinsFrom cellOf cellAt netlistAt grow topsOf flat asked timesAt pairList flatPairs
     pairsFor pairPlace clauseOf gateClauses late pairClauses formula pairVariable formulaFor numbersFor countsFor
     built buildingRows building printed gateLines

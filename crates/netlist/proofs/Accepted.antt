@@ -9,12 +9,12 @@ use lib.Dec.{T, leb, ltb, eqb, le→leb, lt→ltb}
 use lib.ListN.{length, length-append}
 use borrow.Author.Tests.{leb-true, leb-false, lt-ltb, ltb-true, ltb-false, eqb-true}
 use Rattle.basics.specs.Lists.{all, upFrom, concatMap}
-use Rattle.basics.proofs.Truth.{and-both}
+use Rattle.basics.proofs.Truth.{and-both, holds as passes}
 use Rattle.basics.proofs.Lists.{all-of, mem-map, mem-concatMap, upFrom-mem, concatMap-append}
 use Rattle.netlist.specs.declared.Shape.{Shape}
 use Rattle.netlist.specs.declared.Opened.the-variants.{Accepted}
 use Rattle.netlist.specs.Netlist.{Netlist, Cell, Pin, nodeCount, nodes, takes, pinFits, gateFits, rising, valid}
-use Rattle.netlist.specs.Kinds.{fewest, most, kindOf}
+use Rattle.netlist.specs.Kinds.{pinsFit, kindOf}
 use Rattle.netlist.specs.File.{kindAt, countAt, firstAt, driverAt, delayAt, outputAt, pinAt, cellAt, netlistAt}
 use Rattle.netlist.specs.Open.{
   pinsBefore,
@@ -28,7 +28,7 @@ use Rattle.netlist.specs.Open.{
   openOf,
 }
 use Rattle.netlist.specs.Holds.{InRange, Holds}
-use Rattle.netlist.proofs.KindTable.{kind-takes}
+use Rattle.netlist.proofs.PinCounts.{kind-takes}
 use Rattle.netlist.proofs.Ranges.{length-upFrom, upFrom-append}
 use Rattle.netlist.proofs.Entries.{
   cell-kind,
@@ -73,23 +73,19 @@ module _ {file : List ℕ} {shape : Shape} (p : Passed file shape) where
       (upFrom-mem 0 (shape .gates) gate (omega arith) (omega arith))
 
   gate-tests : (gate : ℕ) → gate < shape .gates →
-      (leb (fewest (kindAt file shape gate)) (countAt file shape gate)
-      && leb (countAt file shape gate) (most (kindAt file shape gate))
+      (pinsFit (kindAt file shape gate) (countAt file shape gate)
       && eqb (firstAt file shape gate) (pinsBefore file shape gate)) ≡ true
   unfolding gateWrong
   gate-tests gate h =
       not-back
-      (leb (fewest (kindAt file shape gate)) (countAt file shape gate)
-      && leb (countAt file shape gate) (most (kindAt file shape gate))
+      (pinsFit (kindAt file shape gate) (countAt file shape gate)
       && eqb (firstAt file shape gate) (pinsBefore file shape gate)) (gate-right gate h)
 
   gate-count : (gate : ℕ) → gate < shape .gates →
-      (leb (fewest (kindAt file shape gate)) (countAt file shape gate)
-      && leb (countAt file shape gate) (most (kindAt file shape gate))) ≡ true
+      pinsFit (kindAt file shape gate) (countAt file shape gate) ≡ true
   gate-count gate h =
       and-left-back
-      (leb (fewest (kindAt file shape gate)) (countAt file shape gate)
-      && leb (countAt file shape gate) (most (kindAt file shape gate)))
+      (pinsFit (kindAt file shape gate) (countAt file shape gate))
       (eqb (firstAt file shape gate) (pinsBefore file shape gate)) (gate-tests gate h)
 
   -- a gate's first pin is the total of the pin counts in front of it (rule N5)
@@ -97,8 +93,7 @@ module _ {file : List ℕ} {shape : Shape} (p : Passed file shape) where
   first-right gate h =
       eqb-true (firstAt file shape gate) (pinsBefore file shape gate)
       (and-right-back
-      (leb (fewest (kindAt file shape gate)) (countAt file shape gate)
-      && leb (countAt file shape gate) (most (kindAt file shape gate)))
+      (pinsFit (kindAt file shape gate) (countAt file shape gate))
       (eqb (firstAt file shape gate) (pinsBefore file shape gate)) (gate-tests gate h))
 
   pins-inside : (gate : ℕ) → gate < shape .gates → firstAt file shape gate + countAt file shape gate ≤ shape .pins
@@ -114,12 +109,7 @@ module _ {file : List ℕ} {shape : Shape} (p : Passed file shape) where
   kind-right : (gate : ℕ) → gate < shape .gates → T (takes (kindOf (kindAt file shape gate)) (countAt file shape gate))
   kind-right gate h =
       kind-takes (kindAt file shape gate) (countAt file shape gate)
-      (leb-true (fewest (kindAt file shape gate)) (countAt file shape gate)
-      (and-left-back (leb (fewest (kindAt file shape gate)) (countAt file shape gate))
-      (leb (countAt file shape gate) (most (kindAt file shape gate))) (gate-count gate h)))
-      (leb-true (countAt file shape gate) (most (kindAt file shape gate))
-      (and-right-back (leb (fewest (kindAt file shape gate)) (countAt file shape gate))
-      (leb (countAt file shape gate) (most (kindAt file shape gate))) (gate-count gate h)))
+      (passes (gate-count gate h))
 
   -- ---- the pins
 

@@ -8,7 +8,7 @@ use lib.Dec.{leb, ltb, eqb}
 use lib.ListN.{length}
 use borrow.Author.Tests.{le-leb, lt-leb, le-ltb, lt-ltb, eq-eqb, ne-eqb, leb-true, ltb-false, eqb-true}
 use Rattle.netlist.specs.declared.Shape.{Shape}
-use Rattle.netlist.specs.Kinds.{fewest, most}
+use Rattle.netlist.specs.Kinds.{pinsFit}
 use Rattle.netlist.specs.File.{
   trailer,
   back,
@@ -112,11 +112,10 @@ back-equal file e f q =
 -- 5 GATE
 module _ (file : List ℕ) (shape : Shape) (gate : ℕ) {kind count : ℕ} {fit : Bool}
     (e : kind ≡ kindAt file shape gate) (f : count ≡ countAt file shape gate)
-    (g : fit ≡ (leb (fewest kind) count && leb count (most kind))) where
+    (g : fit ≡ pinsFit kind count) where
   fit-is : fit
-      ≡ (leb (fewest (kindAt file shape gate)) (countAt file shape gate)
-      && leb (countAt file shape gate) (most (kindAt file shape gate)))
-  fit-is = g ∙ ap₂ (λ (k n : ℕ). leb (fewest k) n && leb n (most k)) e f
+      ≡ (pinsFit (kindAt file shape gate) (countAt file shape gate))
+  fit-is = g ∙ ap₂ (λ (k n : ℕ). pinsFit k n) e f
 
   pub gate-pins-wrong : fit ≡ false → true ≡ gateWrong file shape gate
   unfolding gateWrong

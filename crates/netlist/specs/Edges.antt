@@ -11,7 +11,7 @@ use Rattle.refusal.specs.declared.Refusal.the-variants.{Short, Version, Count, 
 use Rattle.netlist.specs.declared.Shape.{Shape}
 use Rattle.netlist.specs.declared.Opened.{Opened}
 use Rattle.netlist.specs.declared.Opened.the-variants.{Accepted, Refused}
-use Rattle.netlist.specs.Kinds.{kinds, kindRow}
+use Rattle.netlist.specs.Kinds.{pinsFit, kindOf}
 use Rattle.netlist.specs.File.{tableBytes, shapeOf}
 use Rattle.netlist.specs.Open.{
   openOf,
@@ -153,5 +153,5 @@ edges = frames ++ (counts ++ ends)
 pub edges-hold : map (λ (c : Case). openOf (c .file)) edges ≡ map (λ (c : Case). c .answer) edges
 unfolding
     edges frames counts ends written oneGate openOf netlistRows firstWrong countWrong backWrong pinsBefore gateWrong
-    gatePlace sumWrong pinsAt pinWrong pinPlace outputWrong outputPlace kinds kindRow tableBytes shapeOf
+    gatePlace sumWrong pinsAt pinWrong pinPlace outputWrong outputPlace pinsFit kindOf tableBytes shapeOf
 edges-hold = refl

@@ -7,7 +7,7 @@ use Prim.Native.Nat.{ℕ}
 use Rattle.netlist.specs.declared.Kind.the-variants.{Simple}
 use Rattle.netlist.specs.declared.Opened.the-variants.{Accepted}
 use Rattle.netlist.specs.Netlist.{Netlist, Pin}
-use Rattle.netlist.specs.Kinds.{kinds, kindRow}
+use Rattle.netlist.specs.Kinds.{pinsFit, kindOf}
 use Rattle.netlist.specs.File.{tableBytes, shapeOf, gateAt, pinAt, pinsFrom, cellOf, cellAt, netlistAt, netlistOf}
 use Rattle.netlist.specs.Open.{
   openOf,
@@ -53,6 +53,6 @@ describedA =
 pub decodes : (openOf circuitA ≡ Accepted (shapeOf circuitA)) × (netlistOf circuitA ≡ describedA)
 unfolding
     circuitA describedA openOf netlistRows firstWrong countWrong backWrong pinsBefore gateWrong gatePlace sumWrong
-    pinsAt pinWrong pinPlace outputWrong outputPlace kinds kindRow tableBytes shapeOf gateAt pinAt pinsFrom
+    pinsAt pinWrong pinPlace outputWrong outputPlace pinsFit kindOf tableBytes shapeOf gateAt pinAt pinsFrom
     cellOf cellAt netlistAt
 decodes = (refl, refl)

@@ -14,7 +14,7 @@ use Rattle.netlist.specs.declared.Shape.{Shape}
 use Rattle.netlist.specs.declared.Opened.{Opened}
 use Rattle.netlist.specs.declared.Opened.the-variants.{Accepted, Refused}
 use Rattle.netlist.specs.Netlist.{Circuit}
-use Rattle.netlist.specs.Kinds.{fewest, most}
+use Rattle.netlist.specs.Kinds.{pinsFit}
 use Rattle.netlist.specs.File.{
   trailer,
   back,
@@ -58,8 +58,7 @@ pinsBefore file shape (suc n) = pinsBefore file shape n + countAt file shape n
 -- 5 GATE: no such kind, no such pin count for it, or another first pin than the total so far (rules K1 and N5)
 unfoldable pub gateWrong : List ℕ → Shape → ℕ → Bool
 gateWrong file shape gate =
-    not (leb (fewest (kindAt file shape gate)) (countAt file shape gate)
-    && leb (countAt file shape gate) (most (kindAt file shape gate))
+    not (pinsFit (kindAt file shape gate) (countAt file shape gate)
     && eqb (firstAt file shape gate) (pinsBefore file shape gate))
 
 -- the first wrong gate, or G

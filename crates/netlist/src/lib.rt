@@ -7,7 +7,7 @@ ghost use mathlib.Core.Bool.{_&&_};
 ghost use Prim.Native.Nat.{_+_, _-_, _*_, _≤_, _<_};
 ghost use lib.Dec.{leb, ltb};
 ghost use lib.ListN.{length};
-ghost use Rattle.netlist.specs.Kinds.{kindOf, fewest, most, recordOf, digitOf};
+ghost use Rattle.netlist.specs.Kinds.{kindOf, inverts, pinsFit};
 ghost use Rattle.netlist.specs.File.{gateAt, countAt, driverAt, delayAt, outputAt, shapeOf, tableBytes};
 ghost use Rattle.netlist.specs.Open.{openOf, countWrong, backWrong, pinsBefore, gateWrong, gatePlace};
 ghost use Rattle.netlist.specs.Open.{pinWrong, rightPins, pinPlace, outputWrong, outputPlace};
@@ -44,60 +44,29 @@ pub enum Opened {
     Refused(Refusal),
 }
 
-// The table of kinds, a number a column: the fewest pins, the most, c and k; a parity gate's value for equal pins
-// stands under k. A column has a hexadecimal digit for each kind: kind 9 first, then 8, and so on down to 0, no kind.
-// Four numbers, not forty bytes: a table that is read at a computed place is laid out anew at each call.
-const KINDS: [usize; 4] = [0x3222222111, 0x3228888110, 0x0001100000, 0x0100110100];
-
-// A kind's digit in a column.
-fn digit(column: usize, kind: usize) -> usize
-    requires { ⌜ kind < 10 ⌝ }
-    ensures { λ r. ⌜ r ≡ digitOf column kind ⌝ }
+// A kind inverts: its number is even.
+fn inverts(kind: usize) -> bool
+    ensures { λ r. ⌜ r ≡ inverts kind ⌝ }
 {
-    (column >> (kind * 4)) % 16
+    kind % 2 == 0
 }
 
-// A row of the table of kinds: the fewest pins, the most, and what the gate does.
-struct Allowed(usize, usize, Kind);
-
-// What a gate of a kind does, by the kind's c and k.
-fn record_of(kind: usize, c: bool, k: bool) -> Kind
-    ensures { λ r. ⌜ r ≡ recordOf kind c k ⌝ }
-{
-    if kind < 1 {
-        return Kind::Mux;
-    }
-    if kind < 7 {
-        return Kind::Simple { c: c, k: k };
-    }
-    if kind < 9 {
-        return Kind::Parity(k);
-    }
-    Kind::Mux
-}
-
-// A kind's row; no pin count is right for a number that names no kind.
-fn row_of(kind: usize) -> Allowed
-    ensures { λ r. ⌜ (r .0 ≡ fewest kind) × (r .1 ≡ most kind) × (r .2 ≡ kindOf kind) ⌝ }
-{
-    if kind < 10 {
-        let c = digit(KINDS[2], kind) == 1;
-        let k = digit(KINDS[3], kind) == 1;
-        return Allowed(
-            digit(KINDS[0], kind),
-            digit(KINDS[1], kind),
-            record_of(kind, c, k),
-        );
-    }
-    Allowed(1, 0, Kind::Mux)
-}
-
-// The record of a kind's number.
+// What a gate of a kind does, by comparison of the kind's number.
 fn kind_of(kind: usize) -> Kind
     ensures { λ r. ⌜ r ≡ kindOf kind ⌝ }
 {
-    let row = row_of(kind);
-    row.2
+    let inverted = inverts(kind);
+    if kind < 7 {
+        let c = 4 < kind;
+        return Kind::Simple {
+            c: c,
+            k: if inverted { !c } else { c },
+        };
+    }
+    if kind < 9 {
+        return Kind::Parity(inverted);
+    }
+    Kind::Mux
 }
 
 // A gate of the file.
@@ -221,12 +190,26 @@ fn back_wrong(file: &[u8]) -> bool
     trailer < back
 }
 
-// A kind can have that many pins; no number of pins is right for a number that names no kind.
+// A gate of a kind can have that many pins; no number of pins is right for a number that names no kind.
 fn pins_fit(kind: usize, count: usize) -> bool
-    ensures { λ r. ⌜ r ≡ (leb (fewest kind) count && leb count (most kind)) ⌝ }
+    ensures { λ r. ⌜ r ≡ pinsFit kind count ⌝ }
 {
-    let row = row_of(kind);
-    between(row.0, count, row.1)
+    if kind < 1 {
+        return false;
+    }
+    if kind < 3 {
+        return count == 1;
+    }
+    if kind < 7 {
+        return between(2, count, 8);
+    }
+    if kind < 9 {
+        return count == 2;
+    }
+    if kind < 10 {
+        return count == 3;
+    }
+    false
 }
 
 // How many pins a gate says it has.

@@ -4,7 +4,7 @@ use mathlib.Core.Path.{_≡_, refl}
 use mathlib.Core.List.{List, [], _∷_, map}
 use Prim.Native.Nat.{ℕ}
 use lib.ListN.{length, replicate}
-use Rattle.netlist.specs.Kinds.{kinds, kindRow}
+use Rattle.netlist.specs.Kinds.{pinsFit, kindOf}
 use Rattle.netlist.specs.File.{tableBytes, shapeOf, gateAt, pinAt, cellOf, cellAt, netlistAt, circuitOf, pinsFrom}
 use Rattle.netlist.specs.Open.{
   netlistRows,
@@ -107,7 +107,7 @@ run c = evaluation (c .file) (c .arrivals) (c .vector) (length (c .expected .val
 pub cases-hold : map run cases ≡ map (λ c. c .expected) cases
 unfolding
     cases circuitA xorTwice muxOfThree netlistRows firstWrong countWrong backWrong pinsBefore gateWrong gatePlace
-    sumWrong pinsAt pinWrong pinPlace outputWrong outputPlace kinds kindRow tableBytes shapeOf gateAt pinAt
+    sumWrong pinsAt pinWrong pinPlace outputWrong outputPlace pinsFit kindOf tableBytes shapeOf gateAt pinAt
     pinsFrom cellOf cellAt netlistAt gateValue settles grow valuesOf timesOf circuitTime evaluation givenRows settled
     arrivalRows
 cases-hold = refl
@@ -116,5 +116,5 @@ cases-hold = refl
 pub tops-hold :
     (topsOf (circuitOf circuitA (0 ∷ 0 ∷ [])) ≡ 0 ∷ 0 ∷ 3 ∷ 4 ∷ 5 ∷ [])
     × (topsOf (circuitOf circuitA (0 ∷ 4 ∷ [])) ≡ 0 ∷ 4 ∷ 3 ∷ 5 ∷ 6 ∷ [])
-unfolding circuitA kinds kindRow tableBytes shapeOf gateAt pinAt pinsFrom cellOf cellAt netlistAt grow topsOf
+unfolding circuitA pinsFit kindOf tableBytes shapeOf gateAt pinAt pinsFrom cellOf cellAt netlistAt grow topsOf
 tops-hold = (refl, refl)

@@ -6,7 +6,7 @@ use Prim.Native.Nat.{ℕ}
 use lib.ListN.{length, replicate}
 use Rattle.refusal.specs.declared.Refusal.{Refusal}
 use Rattle.refusal.specs.declared.Refusal.the-variants.{Short, Gate, Output, Arrival, Vector, Room}
-use Rattle.netlist.specs.Kinds.{kinds, kindRow}
+use Rattle.netlist.specs.Kinds.{pinsFit, kindOf}
 use Rattle.netlist.specs.File.{tableBytes, shapeOf, gateAt, pinAt, cellOf, cellAt, netlistAt, pinsFrom}
 use Rattle.netlist.specs.Open.{
   netlistRows,
@@ -141,7 +141,7 @@ pub edges-hold :
 unfolding
     edges everyKind orders lateCases lateOrders written oneGate circuitA netlistRows firstWrong countWrong backWrong
     pinsBefore gateWrong
-    gatePlace sumWrong pinsAt pinWrong pinPlace outputWrong outputPlace kinds kindRow tableBytes shapeOf gateAt pinAt
+    gatePlace sumWrong pinsAt pinWrong pinPlace outputWrong outputPlace pinsFit kindOf tableBytes shapeOf gateAt pinAt
     pinsFrom cellOf cellAt netlistAt gateValue settles grow valuesOf timesOf circuitTime evaluation givenRows settled
     arrivalRows
 edges-hold = refl
