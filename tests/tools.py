@@ -6,6 +6,7 @@ in target/bin load a C library, and there it is Debian's for the cross compiler.
 install, where something is missing.
 """
 
+import fcntl
 import os
 import platform
 import shutil
@@ -30,8 +31,8 @@ PACKAGES = {
 }
 
 
-def need(*commands):
-    """Make sure that commands are there; install their packages where they are not."""
+def install(commands):
+    """Install the packages of those commands that are missing."""
     missing = [command for command in commands if shutil.which(command) is None]
     if missing:
         packages = [package for command in missing for package in PACKAGES[command].split()]
@@ -39,6 +40,14 @@ def need(*commands):
         become = [] if os.geteuid() == 0 else ["sudo"]
         for arguments in (["update", "-q"], ["install", "-q", "-y", "--no-install-recommends", *packages]):
             subprocess.run(become + ["apt-get", *arguments], stdout=sys.stderr, check=False)
+
+
+def need(*commands):
+    """Make sure that commands are there; install their packages where they are not, one part of the test at a time."""
+    if any(shutil.which(command) is None for command in commands):
+        with open(os.path.abspath(__file__), encoding="utf-8") as lock:
+            fcntl.flock(lock, fcntl.LOCK_EX)
+            install(commands)
     for command in commands:
         if shutil.which(command) is None:
             sys.exit("missing and not to be installed: " + command)
