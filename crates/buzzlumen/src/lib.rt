@@ -19,6 +19,7 @@ ghost use Rattle.buzzlumen.specs.Answers.{
   Says,
   Certifies,
 };
+ghost use Rattle.netlist.specs.Netlist.{alike};
 
 // The answer of an evaluation.
 #[repr(C)]
@@ -115,7 +116,7 @@ pub extern "C" fn buzzlumen_evaluate(
     times: &mut [u32],
 ) -> Evaluated
     ensures { λ r. ⌜
-        Evaluates (evaluation (now (netlist .entry)) (now (arrivals .entry)) (now (vector .entry))
+        Evaluates (evaluation (now (netlist .entry)) (now (arrivals .entry)) alike (now (vector .entry))
         (length (now (values .entry))) (length (now (times .entry)))) r (now (values .exit)) (now (times .exit))
         ⌝ }
 {
@@ -132,7 +133,7 @@ pub extern "C" fn buzzlumen_build(
     formula: &mut [i32],
 ) -> Formed
     ensures { λ r. ⌜
-        Builds (building (now (netlist .entry)) (now (arrivals .entry)) target (length (now (pairs .entry)))
+        Builds (building (now (netlist .entry)) (now (arrivals .entry)) alike target (length (now (pairs .entry)))
         (length (now (formula .entry)))) r (now (pairs .exit)) (now (formula .exit))
         ⌝ }
 {

@@ -71,7 +71,7 @@ time-small {file} {shape} {arrivals} vector valuesRoom timesRoom g a e =
     let circuit = circuitAt file shape arrivals in
     let s = answer-time circuit vector valuesRoom timesRoom a e in
     let h =
-    circuit-small circuit (g .holds .valid) (net-arrives file (g .arrived)) (g .arrived .early) (bits vector)
+    circuit-small circuit (g .holds .valid) (net-arrives file (g .arrived)) tt (g .arrived .early) (bits vector)
     in
     omega (arith, s .1)
 

@@ -36,6 +36,7 @@ use Rattle.certificate.specs.Table.{
 }
 use Rattle.certificate.proofs.Examples.{cases-hold as certifyings-hold}
 use Rattle.certificate.proofs.Edges.{edges-hold as certifyingEdges-hold}
+use Rattle.netlist.specs.Netlist.{alike}
 
 -- each row of a list stands
 abbrev Stand : List Entry → Type 0
@@ -61,7 +62,7 @@ numbers-stand =
 
 -- what an evaluation with the row's rooms gives
 abbrev evaluated : Settling → Evaluation
-evaluated c = evaluation (c .file) (c .arrivals) (c .vector) (length (c .expected .values))
+evaluated c = evaluation (c .file) (c .arrivals) alike (c .vector) (length (c .expected .values))
     (length (c .expected .times))
 
 pub table-stands : (r : Entry) → List·Memᴰ r table → Stands r
@@ -78,12 +79,12 @@ table-stands =
     (map-each evaluated (λ (c : Settling). c .expected) settlingEdges settlingEdges-hold))
     (joined
     (made forms formings
-    (map-each (λ (c : Forming). building circuitA (0 ∷ 0 ∷ []) (c .target) (c .pairsRoom) (c .formulaRoom))
+    (map-each (λ (c : Forming). building circuitA (0 ∷ 0 ∷ []) alike (c .target) (c .pairsRoom) (c .formulaRoom))
     (λ (c : Forming). c .leaves) formings formings-hold))
     (joined
     (made builds buildings
     (map-each
-    (λ (c : Building). building (c .file) (c .arrivals) (c .target) (length (c .leaves .pairs))
+    (λ (c : Building). building (c .file) (c .arrivals) alike (c .target) (length (c .leaves .pairs))
     (length (c .leaves .formula)))
     (λ (c : Building). c .leaves) buildings buildings-hold))
     (joined (made checks checkings checkings-hold)

@@ -24,6 +24,7 @@ use Rattle.refute.specs.Edges.{edges as checkingEdges}
 use Rattle.certificate.specs.Promise.{Judgement, Judges}
 use Rattle.certificate.specs.Cases.{Case as Certifying, cases as certifyings}
 use Rattle.certificate.specs.Edges.{edges as certifyingEdges}
+use Rattle.netlist.specs.Netlist.{alike}
 
 -- one row: a refusal's number and place, a file that is opened, an evaluation, a building call on circuit A or on a
 -- file, a check, a clause that follows, or a certificate call
@@ -42,11 +43,11 @@ abbrev pub Stands : Entry → Type 0
 Stands (numbers c) = (numberOf (c .refusal) ≡ c .number) × (placeOf (c .refusal) ≡ c .place)
 Stands (opens c) = openOf (c .file) ≡ c .answer
 Stands (settles c) =
-    evaluation (c .file) (c .arrivals) (c .vector) (length (c .expected .values)) (length (c .expected .times))
+    evaluation (c .file) (c .arrivals) alike (c .vector) (length (c .expected .values)) (length (c .expected .times))
     ≡ c .expected
-Stands (forms c) = building circuitA (0 ∷ 0 ∷ []) (c .target) (c .pairsRoom) (c .formulaRoom) ≡ c .leaves
+Stands (forms c) = building circuitA (0 ∷ 0 ∷ []) alike (c .target) (c .pairsRoom) (c .formulaRoom) ≡ c .leaves
 Stands (builds c) =
-    building (c .file) (c .arrivals) (c .target) (length (c .leaves .pairs)) (length (c .leaves .formula)) ≡ c .leaves
+    building (c .file) (c .arrivals) alike (c .target) (length (c .leaves .pairs)) (length (c .leaves .formula)) ≡ c .leaves
 Stands (checks c) = Checks (c .variables) (c .formula) (c .refutation) (c .room) (c .answer)
 Stands (follows f) =
     (c : List Literal) → List·Memᴰ c (clausesOf (f .clause)) → Follows (clausesOf (f .formula)) c

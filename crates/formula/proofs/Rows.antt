@@ -9,11 +9,13 @@ use lib.Seq.{take-at}
 use borrow.Author.Tests.{lt-ltb, le-ltb}
 use Rattle.refusal.specs.declared.Refusal.{Refusal}
 use Rattle.refusal.specs.declared.Refusal.the-variants.{Pairs, Room}
+use Rattle.refusal.specs.Rows.{checked}
+use Rattle.refusal.specs.declared.Checked.the-variants.{Passes}
 use Rattle.netlist.specs.declared.Shape.{Shape}
 use Rattle.netlist.specs.declared.Opened.the-variants.{Accepted, Refused as Rejected}
-use Rattle.netlist.specs.Netlist.{nodeCount, Circuit}
-use Rattle.netlist.specs.File.{netlistAt, circuitAt}
-use Rattle.netlist.specs.Open.{openCircuitOf}
+use Rattle.netlist.specs.Netlist.{nodeCount, Circuit, Slopes}
+use Rattle.netlist.specs.File.{netlistAt, circuitAt, circuitWith}
+use Rattle.netlist.specs.Open.{openCircuitOf, slopeRows}
 use Rattle.netlist.specs.Holds.{Given}
 use Rattle.netlist.proofs.Entries.{node-count}
 use Rattle.netlist.proofs.Calls.{call-accepted, call-rejected}
@@ -206,20 +208,21 @@ listed-none file shape arrivals target pairsRoom formulaRoom pairs formula liste
     rw (too-many (circuitAt file shape arrivals) target pairsRoom formulaRoom (w .0))
     (record { answer-is = refl; pairs-are = w .1; formula-is = f })
 
-module _ (file arrivals : List ℕ) (target pairsRoom formulaRoom : ℕ) where
+module _ (file arrivals : List ℕ) (slopes : Slopes) (target pairsRoom formulaRoom : ℕ) where
   pub of-accepted : (shape : Shape) → openCircuitOf file arrivals ≡ Accepted shape →
-      building file arrivals target pairsRoom formulaRoom ≡ buildingOf
-      (circuitAt file shape arrivals) target pairsRoom formulaRoom
+      checked (slopeRows (shape .pins) slopes) ≡ Passes →
+      building file arrivals slopes target pairsRoom formulaRoom ≡ buildingOf
+      (circuitWith file shape arrivals slopes) target pairsRoom formulaRoom
   unfolding building buildingOf
-  of-accepted shape e =
-      call-accepted file arrivals (λ circuit. buildingRows circuit target pairsRoom formulaRoom)
+  of-accepted shape e f =
+      call-accepted file arrivals slopes (λ circuit. buildingRows circuit target pairsRoom formulaRoom)
       (refused pairsRoom formulaRoom)
-      (λ circuit. built circuit target pairsRoom formulaRoom) e
+      (λ circuit. built circuit target pairsRoom formulaRoom) e f
 
   pub of-rejected : (refusal : Refusal) → openCircuitOf file arrivals ≡ Rejected refusal →
-      building file arrivals target pairsRoom formulaRoom ≡ refused pairsRoom formulaRoom refusal
+      building file arrivals slopes target pairsRoom formulaRoom ≡ refused pairsRoom formulaRoom refusal
   unfolding building
   of-rejected refusal e =
-      call-rejected file arrivals (λ circuit. buildingRows circuit target pairsRoom formulaRoom)
+      call-rejected file arrivals slopes (λ circuit. buildingRows circuit target pairsRoom formulaRoom)
       (refused pairsRoom formulaRoom)
       (λ circuit. built circuit target pairsRoom formulaRoom) e

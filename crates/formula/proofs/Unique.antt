@@ -6,11 +6,12 @@ use Prim.Native.Nat.{ℕ}
 use lib.IntN.{ℤ}
 use Rattle.formula.specs.declared.Built.{Built}
 use Rattle.formula.specs.Promise.{Meets, building}
+use Rattle.netlist.specs.Netlist.{Slopes}
 
-pub build-unique : (file arrivals : List ℕ) (target pairsRoom formulaRoom : ℕ) (answer answer′ : Built)
+pub build-unique : (file arrivals : List ℕ) (slopes : Slopes) (target pairsRoom formulaRoom : ℕ) (answer answer′ : Built)
     (pairs pairs′ : List ℕ) (formula formula′ : List ℤ) →
-    Meets (building file arrivals target pairsRoom formulaRoom) answer pairs formula →
-    Meets (building file arrivals target pairsRoom formulaRoom) answer′ pairs′ formula′ →
+    Meets (building file arrivals slopes target pairsRoom formulaRoom) answer pairs formula →
+    Meets (building file arrivals slopes target pairsRoom formulaRoom) answer′ pairs′ formula′ →
     (answer ≡ answer′) × ((pairs ≡ pairs′) × (formula ≡ formula′))
-build-unique file arrivals target pairsRoom formulaRoom answer answer′ pairs pairs′ formula formula′ a b =
+build-unique file arrivals slopes target pairsRoom formulaRoom answer answer′ pairs pairs′ formula formula′ a b =
     (a .answer-is ∙ sym (b .answer-is), (a .pairs-are ∙ sym (b .pairs-are), a .formula-is ∙ sym (b .formula-is)))

@@ -33,6 +33,7 @@ use Rattle.formula.specs.declared.Built.the-variants.{Formula, Refused}
 use Rattle.formula.specs.Formula.{clauseOf, gateClauses, late, pairClauses, formula, pairVariable, formulaFor}
 use Rattle.formula.specs.Promise.{Building, numbersFor, countsFor, built, buildingRows, building}
 use Rattle.formula.specs.Example.{printed}
+use Rattle.netlist.specs.Netlist.{alike}
 
 -- a row
 pub record Case : Type 0 where
@@ -111,7 +112,7 @@ cases =
     ∷ []
 
 -- the promise of `build` says so in each row
-pub hold : map (λ (c : Case). building circuitA (0 ∷ 0 ∷ []) (c .target) (c .pairsRoom) (c .formulaRoom)) cases
+pub hold : map (λ (c : Case). building circuitA (0 ∷ 0 ∷ []) alike (c .target) (c .pairsRoom) (c .formulaRoom)) cases
     ≡ map (λ (c : Case). c .leaves) cases
 unfolding
     circuitA netlistRows arrivalRows firstWrong countWrong backWrong pinsBefore gateWrong gatePlace sumWrong pinsAt

@@ -46,6 +46,7 @@ use Rattle.formula.specs.Promise.{
 }
 use Rattle.formula.specs.Example.{printed}
 use Rattle.formula.specs.Cases.{gateLines}
+use Rattle.netlist.specs.Netlist.{alike}
 
 -- a row: a file, the arrivals of its inputs, a target, and what a call leaves, whose slices are as long as those lent
 pub record Case : Type 0 where
@@ -211,7 +212,7 @@ edges = everyKind ++ (targets ++ (orders ++ lateInputs))
 pub edges-hold :
     map
     (λ (c : Case).
-    building (c .file) (c .arrivals) (c .target) (length (c .leaves .pairs)) (length (c .leaves .formula))) edges
+    building (c .file) (c .arrivals) alike (c .target) (length (c .leaves .pairs)) (length (c .leaves .formula))) edges
     ≡ map (λ (c : Case). c .leaves) edges
 unfolding
     edges everyKind targets orders lateInputs muxOfBuffers written oneGate circuitA xorTwice muxOfThree netlistRows

@@ -9,7 +9,7 @@ use lib.ListN.{length, replicate}
 use Rattle.refusal.specs.declared.Refusal.{Refusal}
 use Rattle.refusal.specs.declared.Refusal.the-variants.{Pairs}
 use Rattle.refusal.specs.Rows.{Row, checked, unlessRefused, roomRow}
-use Rattle.netlist.specs.Netlist.{nodeCount, Circuit}
+use Rattle.netlist.specs.Netlist.{nodeCount, Circuit, Slopes}
 use Rattle.netlist.specs.Open.{callOver}
 use Rattle.clauses.specs.Clauses.{flat}
 use Rattle.formula.specs.declared.Built.{Built}
@@ -73,8 +73,8 @@ buildingOf circuit target pairsRoom formulaRoom =
     (built circuit target pairsRoom formulaRoom)
 
 -- of any bytes, any arrivals and any target, with room for so many numbers in the table and the formula
-unfoldable pub building : List ℕ → List ℕ → ℕ → ℕ → ℕ → Building
-building file arrivals target pairsRoom formulaRoom =
-    callOver file arrivals (λ circuit. buildingRows circuit target pairsRoom formulaRoom)
+unfoldable pub building : List ℕ → List ℕ → Slopes → ℕ → ℕ → ℕ → Building
+building file arrivals slopes target pairsRoom formulaRoom =
+    callOver file arrivals slopes (λ circuit. buildingRows circuit target pairsRoom formulaRoom)
     (refused pairsRoom formulaRoom)
     (λ circuit. built circuit target pairsRoom formulaRoom)

@@ -68,6 +68,7 @@ ghost use Rattle.formula.specs.Late.{
   LateCode,
   Reads,
 };
+ghost use Rattle.netlist.specs.Netlist.{alike};
 
 // How many variables, pairs, clauses and numbers a formula has.
 pub struct Counts {
@@ -1061,7 +1062,7 @@ pub fn build(
     formula: &mut [i32],
 ) -> Built
     ensures { λ r. ⌜
-        Meets (building (now (file .entry)) (now (arrivals .entry)) target (length (now (pairs .entry)))
+        Meets (building (now (file .entry)) (now (arrivals .entry)) alike target (length (now (pairs .entry)))
         (length (now (formula .entry)))) r (now (pairs .exit)) (now (formula .exit))
         ⌝ }
 {

@@ -10,7 +10,7 @@ use lib.Dec.{ltb, eqb}
 use lib.ListN.{length, replicate, length-replicate}
 use borrow.Author.Tests.{ltb-false, eqb-true, eq-eqb, le-ltb}
 use Rattle.refusal.specs.declared.Refusal.{Refusal}
-use Rattle.refusal.specs.declared.Refusal.the-variants.{Arrival}
+use Rattle.refusal.specs.declared.Refusal.the-variants.{Arrival, Fall}
 use Rattle.refusal.specs.declared.Checked.{Checked}
 use Rattle.refusal.specs.declared.Checked.the-variants.{Passes, Refused as Fails}
 use Rattle.refusal.specs.Rows.{Row, checked, unlessRefused}
@@ -18,8 +18,8 @@ use Rattle.refusal.proofs.Rows.{refused-first, passed-first, first-passes, rest
 use Rattle.netlist.specs.declared.Shape.{Shape}
 use Rattle.netlist.specs.declared.Opened.{Opened}
 use Rattle.netlist.specs.declared.Opened.the-variants.{Accepted, Refused}
-use Rattle.netlist.specs.Netlist.{Circuit}
-use Rattle.netlist.specs.File.{shapeOf, circuitAt, circuitOf}
+use Rattle.netlist.specs.Netlist.{Circuit, Slopes, apart}
+use Rattle.netlist.specs.File.{shapeOf, circuitWith, circuitOf}
 use Rattle.netlist.specs.Open.{
   netlistRows,
   openOf,
@@ -30,10 +30,12 @@ use Rattle.netlist.specs.Open.{
   circuitRows,
   openCircuitOf,
   arrivedOf,
+  fallRows,
+  slopeRows,
   rowsOver,
   callOver,
 }
-use Rattle.netlist.specs.Holds.{Arrived, Given}
+use Rattle.netlist.specs.Holds.{Arrived, Given, Sloped}
 use Rattle.netlist.proofs.FirstWrong.{first-none, first-later, within-bound}
 use Rattle.netlist.proofs.TableOrder.{
   answer,
@@ -143,39 +145,76 @@ module _ (file arrivals : List ℕ) where
 
   -- ---- a call on them
 
-  -- the circuit of an accepted file is that of its shape
-  pub accepted-circuit : {shape : Shape} → openCircuitOf file arrivals ≡ Accepted shape →
-      circuitOf file arrivals ≡ circuitAt file shape arrivals
-  accepted-circuit e = ap (λ (s : Shape). circuitAt file s arrivals) (accepted-both e .1)
+  module _ (slopes : Slopes) where
+    -- the circuit of an accepted file is that of its shape
+    pub accepted-circuit : {shape : Shape} → openCircuitOf file arrivals ≡ Accepted shape →
+        circuitOf file arrivals slopes ≡ circuitWith file shape arrivals slopes
+    accepted-circuit e = ap (λ (s : Shape). circuitWith file s arrivals slopes) (accepted-both e .1)
 
-  module _ (rows : Circuit → List Row) where
-    -- the rows of a call on what is accepted are its own
-    pub rows-accepted : {shape : Shape} → openCircuitOf file arrivals ≡ Accepted shape →
-        checked (rowsOver file arrivals rows) ≡ checked (rows (circuitAt file shape arrivals))
-    rows-accepted e =
-        passed-first (circuitRows file arrivals) (rows (circuitOf file arrivals)) (accepted-both e .0)
-        ∙ ap (λ (circuit : Circuit). checked (rows circuit)) (accepted-circuit e)
+    module _ (rows : Circuit → List Row) where
+      -- the rows of a call on what is accepted are those of its slopes, and its own
+      pub rows-opened : {shape : Shape} → openCircuitOf file arrivals ≡ Accepted shape →
+          checked (rowsOver file arrivals slopes rows)
+          ≡ checked (slopeRows (shape .pins) slopes ++ rows (circuitWith file shape arrivals slopes))
+      rows-opened e =
+          passed-first (circuitRows file arrivals)
+          (slopeRows (shapeOf file .pins) slopes ++ rows (circuitOf file arrivals slopes)) (accepted-both e .0)
+          ∙ ap (λ (s : Shape). checked (slopeRows (s .pins) slopes ++ rows (circuitWith file s arrivals slopes)))
+          (accepted-both e .1)
 
-    -- those on what is refused refuse as these do
-    pub rows-rejected : {refusal : Refusal} → openCircuitOf file arrivals ≡ Refused refusal →
-        checked (rowsOver file arrivals rows) ≡ Fails refusal
-    rows-rejected e =
-        refused-first (circuitRows file arrivals) (rows (circuitOf file arrivals)) (rejected-both e)
+      -- its own, where the slopes pass too
+      pub rows-accepted : {shape : Shape} → openCircuitOf file arrivals ≡ Accepted shape →
+          checked (slopeRows (shape .pins) slopes) ≡ Passes →
+          checked (rowsOver file arrivals slopes rows) ≡ checked (rows (circuitWith file shape arrivals slopes))
+      rows-accepted {shape} e f =
+          rows-opened e
+          ∙ passed-first (slopeRows (shape .pins) slopes) (rows (circuitWith file shape arrivals slopes)) f
 
-    module _ {A : Type 0} (refused : Refusal → A) (passed : Circuit → A) where
-      pub call-accepted : {shape : Shape} → openCircuitOf file arrivals ≡ Accepted shape →
-          callOver file arrivals rows refused passed
-          ≡ unlessRefused (checked (rows (circuitAt file shape arrivals))) refused
-          (passed (circuitAt file shape arrivals))
-      call-accepted {shape} e =
-          ap (λ (c : Checked). unlessRefused c refused (passed (circuitOf file arrivals))) (rows-accepted e)
-          ∙ ap (λ (circuit : Circuit). unlessRefused (checked (rows (circuitAt file shape arrivals))) refused
-          (passed circuit)) (accepted-circuit e)
+      -- slopes that are refused end it
+      pub rows-sloped : {shape : Shape} {refusal : Refusal} → openCircuitOf file arrivals ≡ Accepted shape →
+          checked (slopeRows (shape .pins) slopes) ≡ Fails refusal →
+          checked (rowsOver file arrivals slopes rows) ≡ Fails refusal
+      rows-sloped {shape} e f =
+          rows-opened e
+          ∙ refused-first (slopeRows (shape .pins) slopes) (rows (circuitWith file shape arrivals slopes)) f
 
-      pub call-rejected : {refusal : Refusal} → openCircuitOf file arrivals ≡ Refused refusal →
-          callOver file arrivals rows refused passed ≡ refused refusal
-      call-rejected e =
-          ap (λ (c : Checked). unlessRefused c refused (passed (circuitOf file arrivals))) (rows-rejected e)
+      -- those on what is refused refuse as these do
+      pub rows-rejected : {refusal : Refusal} → openCircuitOf file arrivals ≡ Refused refusal →
+          checked (rowsOver file arrivals slopes rows) ≡ Fails refusal
+      rows-rejected e =
+          refused-first (circuitRows file arrivals)
+          (slopeRows (shapeOf file .pins) slopes ++ rows (circuitOf file arrivals slopes)) (rejected-both e)
+
+      module _ {A : Type 0} (refused : Refusal → A) (passed : Circuit → A) where
+        pub call-accepted : {shape : Shape} → openCircuitOf file arrivals ≡ Accepted shape →
+            checked (slopeRows (shape .pins) slopes) ≡ Passes →
+            callOver file arrivals slopes rows refused passed
+            ≡ unlessRefused (checked (rows (circuitWith file shape arrivals slopes))) refused
+            (passed (circuitWith file shape arrivals slopes))
+        call-accepted {shape} e f =
+            ap (λ (c : Checked). unlessRefused c refused (passed (circuitOf file arrivals slopes)))
+            (rows-accepted e f)
+            ∙ ap (λ (circuit : Circuit). unlessRefused (checked (rows (circuitWith file shape arrivals slopes)))
+            refused (passed circuit)) (accepted-circuit e)
+
+        pub call-sloped : {shape : Shape} {refusal : Refusal} → openCircuitOf file arrivals ≡ Accepted shape →
+            checked (slopeRows (shape .pins) slopes) ≡ Fails refusal →
+            callOver file arrivals slopes rows refused passed ≡ refused refusal
+        call-sloped e f =
+            ap (λ (c : Checked). unlessRefused c refused (passed (circuitOf file arrivals slopes))) (rows-sloped e f)
+
+        pub call-rejected : {refusal : Refusal} → openCircuitOf file arrivals ≡ Refused refusal →
+            callOver file arrivals slopes rows refused passed ≡ refused refusal
+        call-rejected e =
+            ap (λ (c : Checked). unlessRefused c refused (passed (circuitOf file arrivals slopes))) (rows-rejected e)
+
+-- the delays of gates that end at 0, where they pass row 19, are one for each pin, and small
+pub falls-pass : (shape : Shape) (falls : List ℕ) → checked (fallRows (shape .pins) falls) ≡ Passes →
+    Sloped shape (apart falls)
+unfolding fallRows
+falls-pass shape falls e =
+    let passed = list-passes Fall (shape .pins) 999 falls [] e in
+    (passed .0, within-bound 999 falls (passed .1))
 
 -- ---- all inputs at 0
 

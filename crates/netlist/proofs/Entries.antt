@@ -86,7 +86,7 @@ module _ (file : List ℕ) (shape : Shape) where
       drop j (cellAt file shape i .pins)
       ≡ pinAt file shape (firstAt file shape i + j) ∷ drop (suc j) (cellAt file shape i .pins)
   pins-from i j h =
-      let d : Pin = record { driver = 0; delay = 0 } in
+      let d : Pin = record { driver = 0; delay = 0; number = 0 } in
       let l : j < length (cellAt file shape i .pins) = omega (arith, pins-length i) in
       drop-cons (cellAt file shape i .pins) j d l
       ∙ ap (λ (p : Pin). p ∷ drop (suc j) (cellAt file shape i .pins)) (pin-entry i j d h)

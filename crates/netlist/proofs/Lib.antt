@@ -12,5 +12,6 @@ pub mod PinSearch
 pub mod Rows
 pub mod TableOrder
 pub mod Accepted
+pub mod Slopes
 pub mod Calls
 pub mod GateRead

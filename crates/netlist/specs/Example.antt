@@ -33,9 +33,9 @@ circuitA =
     0 ∷ 0 ∷ 3 ∷ 0 ∷ 2 ∷ 0 ∷ 1 ∷ 0 ∷ 1 ∷ 0 ∷ 1 ∷ 0 ∷ 3 ∷ 0 ∷ 1 ∷ 0 ∷ 1 ∷ 0 ∷ 1 ∷ 0 ∷
     4 ∷ 0 ∷ 34 ∷ 0 ∷ 0 ∷ 0 ∷ 2 ∷ 0 ∷ 3 ∷ 0 ∷ 5 ∷ 0 ∷ 1 ∷ 0 ∷ 1 ∷ 0 ∷ []
 
--- a pin by its driver and its delay
-abbrev pin : ℕ → ℕ → Pin
-pin driver delay = record { driver = driver; delay = delay }
+-- a pin by its number, its driver and its delay
+abbrev pin : ℕ → ℕ → ℕ → Pin
+pin number driver delay = record { driver = driver; delay = delay; number = number }
 
 -- node 2 a BUF of a with delay 3, node 3 an AND of node 2 and b, node 4 an OR of node 3 and b, their pins with delay 1
 unfoldable pub describedA : Netlist
@@ -43,9 +43,9 @@ describedA =
     record {
       inputs = 2;
       gates =
-          record { kind = Simple false false; pins = pin 0 3 ∷ [] }
-          ∷ record { kind = Simple false false; pins = pin 2 1 ∷ pin 1 1 ∷ [] }
-          ∷ record { kind = Simple true true; pins = pin 3 1 ∷ pin 1 1 ∷ [] } ∷ [];
+          record { kind = Simple false false; pins = pin 0 0 3 ∷ [] }
+          ∷ record { kind = Simple false false; pins = pin 1 2 1 ∷ pin 2 1 1 ∷ [] }
+          ∷ record { kind = Simple true true; pins = pin 3 3 1 ∷ pin 4 1 1 ∷ [] } ∷ [];
       outputs = 4 ∷ [];
     }
 

@@ -7,7 +7,7 @@ use Rattle.basics.specs.Lists.{upFrom}
 use Rattle.lent.specs.Bytes.{twoBytes, fourBytes}
 use Rattle.netlist.specs.declared.Shape.{Shape}
 use Rattle.netlist.specs.declared.Gate.{Gate}
-use Rattle.netlist.specs.Netlist.{Netlist, Circuit, Cell, Pin}
+use Rattle.netlist.specs.Netlist.{Netlist, Circuit, Slopes, alike, Cell, Pin}
 use Rattle.netlist.specs.Kinds.{kindOf}
 
 -- ---- the trailer (rule N2): back in four bytes, then I, G, P, Q and the version in two each
@@ -81,7 +81,8 @@ gateAt file shape gate =
 
 -- a pin by its number
 unfoldable pub pinAt : List ℕ → Shape → ℕ → Pin
-pinAt file shape pin = record { driver = driverAt file shape pin; delay = delayAt file shape pin }
+pinAt file shape pin =
+    record { driver = driverAt file shape pin; delay = delayAt file shape pin; number = pin }
 
 -- the pins from number `first` on, so many
 unfoldable pub pinsFrom : List ℕ → Shape → ℕ → ℕ → List Pin
@@ -108,9 +109,13 @@ netlistAt file shape =
 abbrev pub netlistOf : List ℕ → Netlist
 netlistOf file = netlistAt file (shapeOf file)
 
--- the circuit of a file, and of the arrivals of its inputs
-abbrev pub circuitAt : List ℕ → Shape → List ℕ → Circuit
-circuitAt file shape arrivals = record { net = netlistAt file shape; arrivals = arrivals }
+-- the circuit of a file, of the arrivals of its inputs, and of its slopes
+abbrev pub circuitWith : List ℕ → Shape → List ℕ → Slopes → Circuit
+circuitWith file shape arrivals slopes = record { net = netlistAt file shape; arrivals = arrivals; slopes = slopes }
 
-abbrev pub circuitOf : List ℕ → List ℕ → Circuit
-circuitOf file arrivals = circuitAt file (shapeOf file) arrivals
+abbrev pub circuitOf : List ℕ → List ℕ → Slopes → Circuit
+circuitOf file arrivals slopes = circuitWith file (shapeOf file) arrivals slopes
+
+-- with one delay a pin
+abbrev pub circuitAt : List ℕ → Shape → List ℕ → Circuit
+circuitAt file shape arrivals = circuitWith file shape arrivals alike

@@ -1,5 +1,5 @@
 -- What every later read of an accepted file, and of its inputs' arrivals, may lean on. Interface: Holds, Tables,
--- Arrived, Given. InRange and Framed serve `open`.
+-- Arrived, Given, Small, Sloped. InRange and Framed serve `open`.
 use mathlib.Core.Path.{_≡_}
 use mathlib.Core.Bool.{false}
 use mathlib.Core.List.{List}
@@ -8,7 +8,7 @@ use lib.Dec.{T}
 use lib.ListN.{length, getD}
 use Rattle.netlist.specs.declared.Shape.{Shape}
 use Rattle.netlist.specs.declared.Opened.the-variants.{Accepted}
-use Rattle.netlist.specs.Netlist.{valid}
+use Rattle.netlist.specs.Netlist.{Slopes, alike, apart, valid}
 use Rattle.netlist.specs.File.{
   version,
   shapeOf,
@@ -64,3 +64,13 @@ pub record Arrived (shape : Shape) (arrivals : List ℕ) : Type 0 where
 pub record Given (file : List ℕ) (shape : Shape) (arrivals : List ℕ) : Type 0 where
   pub holds : Holds file shape
   pub arrived : Arrived shape arrivals
+
+-- the delays for a gate that ends at 0, where they stand apart, are small (row 19)
+abbrev pub Small : Slopes → Type 0
+Small alike = Unit {0}
+Small (apart falls) = (pin : ℕ) → getD falls pin 0 ≤ 999
+
+-- and there is one for each pin
+abbrev pub Sloped : Shape → Slopes → Type 0
+Sloped shape alike = Unit {0}
+Sloped shape (apart falls) = (length falls ≡ shape .pins) × Small (apart falls)

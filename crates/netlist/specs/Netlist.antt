@@ -1,17 +1,18 @@
 -- A netlist as data, apart from its bytes: inputs, gates with their pins, outputs. Interface: all of it.
-use mathlib.Core.Bool.{Bool, true, _&&_}
-use mathlib.Core.List.{List, [], _∷_}
-use Prim.Native.Nat.{ℕ, suc, _+_}
+use mathlib.Core.Bool.{Bool, true, false, _&&_}
+use mathlib.Core.List.{List, [], _∷_, map}
+use Prim.Native.Nat.{ℕ, suc, _+_, max}
 use lib.Dec.{leb, ltb, eqb}
-use lib.ListN.{length, replicate}
+use lib.ListN.{length, getD, replicate}
 use Rattle.basics.specs.Lists.{all, numbered}
 use Rattle.netlist.specs.declared.Kind.{Kind}
 use Rattle.netlist.specs.declared.Kind.the-variants.{Simple, Parity, Mux}
 
--- a pin: the node that drives it, and its delay
+-- a pin: the node that drives it, its delay, and its number among the pins of all gates
 pub record Pin : Type 0 where
   pub driver : ℕ
   pub delay : ℕ
+  pub number : ℕ
 
 -- a gate with its pins
 pub record Cell : Type 0 where
@@ -24,14 +25,40 @@ pub record Netlist : Type 0 where
   pub gates : List Cell
   pub outputs : List ℕ
 
--- a circuit: a netlist, and when each of its inputs arrives
+-- whether a pin's delay depends on its gate's final value (rule S8): it does not; or a gate that ends at 0 has these
+-- delays, by the pins' numbers, and one that ends at 1 the file's own
+pub data Slopes : Type 0 where
+  alike : Slopes
+  apart : List ℕ → Slopes
+
+-- a circuit: a netlist, when each of its inputs arrives, and how its delays depend on a gate's final value
 pub record Circuit : Type 0 where
   pub net : Netlist
   pub arrivals : List ℕ
+  pub slopes : Slopes
 
--- the circuit whose inputs all arrive at 0
+-- the circuit whose inputs all arrive at 0, with one delay a pin
 abbrev pub atZero : Netlist → Circuit
-atZero net = record { net = net; arrivals = replicate (net .inputs) 0 }
+atZero net = record { net = net; arrivals = replicate (net .inputs) 0; slopes = alike }
+
+-- a pin with another delay
+abbrev pub delayed : (Pin → ℕ) → Pin → Pin
+delayed delay p = record { driver = p .driver; delay = delay p; number = p .number }
+
+-- a pin's delay where its gate ends at 0
+abbrev pub fallOf : List ℕ → Pin → ℕ
+fallOf falls p = getD falls (p .number) 0
+
+-- a gate's pins, with the delays for its final value
+abbrev pub pinsFor : Slopes → Bool → List Pin → List Pin
+pinsFor alike value ps = ps
+pinsFor (apart falls) true ps = ps
+pinsFor (apart falls) false ps = map (delayed (fallOf falls)) ps
+
+-- a gate's pins, each with the larger of its delays
+abbrev pub slowest : Slopes → List Pin → List Pin
+slowest alike ps = ps
+slowest (apart falls) ps = map (delayed (λ p. max (p .delay) (fallOf falls p))) ps
 
 -- N, the nodes
 abbrev pub nodeCount : Netlist → ℕ

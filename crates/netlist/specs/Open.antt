@@ -1,6 +1,6 @@
--- Rows 1 to 7 and 16 of the table of refusals (rule T1), in the sequence of rules C3 and C4: no pin until all gates are
+-- Rows 1 to 7, 16 and 19 of the table of refusals (rule T1), in the sequence of rules C3 and C4: no pin until all gates are
 -- right, no output until all pins are, no arrival until the netlist is. Interface: netlistRows, openOf, listRows,
--- arrivalRows, circuitRows, openCircuitOf, arrivedOf, rowsOver, callOver.
+-- arrivalRows, circuitRows, openCircuitOf, arrivedOf, fallRows, rowsOver, callOver.
 use mathlib.Core.Bool.{Bool, not, _&&_, _||_, cond}
 use mathlib.Core.List.{List, [], _∷_, _++_, map}
 use Prim.Native.Nat.{ℕ, zero, suc, _+_, _-_}
@@ -8,12 +8,12 @@ use lib.Dec.{leb, ltb, eqb}
 use lib.ListN.{length}
 use Rattle.basics.specs.Lists.{upFrom, concatMap}
 use Rattle.refusal.specs.declared.Refusal.{Refusal}
-use Rattle.refusal.specs.declared.Refusal.the-variants.{Short, Version, Count, Back, Gate, Pin, Output, Arrival}
+use Rattle.refusal.specs.declared.Refusal.the-variants.{Short, Version, Count, Back, Gate, Pin, Output, Arrival, Fall}
 use Rattle.refusal.specs.Rows.{Row, checked, unlessRefused}
 use Rattle.netlist.specs.declared.Shape.{Shape}
 use Rattle.netlist.specs.declared.Opened.{Opened}
 use Rattle.netlist.specs.declared.Opened.the-variants.{Accepted, Refused}
-use Rattle.netlist.specs.Netlist.{Circuit}
+use Rattle.netlist.specs.Netlist.{Circuit, Slopes, alike, apart}
 use Rattle.netlist.specs.Kinds.{pinsFit}
 use Rattle.netlist.specs.File.{
   trailer,
@@ -141,11 +141,22 @@ arrivedOf (Refused refusal) arrivals = Refused refusal
 arrivedOf (Accepted shape) arrivals =
     unlessRefused (checked (arrivalRows (shape .inputs) arrivals)) Refused (Accepted shape)
 
--- the rows of a call on any list of bytes and any arrivals: 1 to 7 and 16, then the call's own over the circuit
-abbrev pub rowsOver : List ℕ → List ℕ → (Circuit → List Row) → List Row
-rowsOver file arrivals rows = circuitRows file arrivals ++ rows (circuitOf file arrivals)
+-- 19 FALL, of the delays of so many pins for gates that end at 0
+unfoldable pub fallRows : ℕ → List ℕ → List Row
+fallRows pins falls = listRows Fall pins 999 falls
+
+-- asked only where such delays are given
+abbrev pub slopeRows : ℕ → Slopes → List Row
+slopeRows pins alike = []
+slopeRows pins (apart falls) = fallRows pins falls
+
+-- the rows of a call on any list of bytes, any arrivals and any slopes: 1 to 7, 16 and 19, then the call's own over the
+-- circuit
+abbrev pub rowsOver : List ℕ → List ℕ → Slopes → (Circuit → List Row) → List Row
+rowsOver file arrivals slopes rows =
+    circuitRows file arrivals ++ (slopeRows (shapeOf file .pins) slopes ++ rows (circuitOf file arrivals slopes))
 
 -- what such a call comes to
-abbrev pub callOver : {A : Type 0} → List ℕ → List ℕ → (Circuit → List Row) → (Refusal → A) → (Circuit → A) → A
-callOver file arrivals rows refused passed =
-    unlessRefused (checked (rowsOver file arrivals rows)) refused (passed (circuitOf file arrivals))
+abbrev pub callOver : {A : Type 0} → List ℕ → List ℕ → Slopes → (Circuit → List Row) → (Refusal → A) → (Circuit → A) → A
+callOver file arrivals slopes rows refused passed =
+    unlessRefused (checked (rowsOver file arrivals slopes rows)) refused (passed (circuitOf file arrivals slopes))

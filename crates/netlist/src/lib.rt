@@ -11,7 +11,7 @@ ghost use Rattle.netlist.specs.Kinds.{kindOf, inverts, pinsFit};
 ghost use Rattle.netlist.specs.File.{gateAt, countAt, driverAt, delayAt, outputAt, shapeOf, tableBytes};
 ghost use Rattle.netlist.specs.Open.{openOf, countWrong, backWrong, pinsBefore, gateWrong, gatePlace};
 ghost use Rattle.netlist.specs.Open.{pinWrong, rightPins, pinPlace, outputWrong, outputPlace};
-ghost use Rattle.netlist.specs.Open.{firstWrong, arrivalRows, arrivedOf};
+ghost use Rattle.netlist.specs.Open.{firstWrong, arrivalRows, arrivedOf, fallRows};
 ghost use Rattle.refusal.specs.Rows.{checked};
 ghost use Rattle.netlist.specs.Holds.{InRange, Tables, Framed};
 
@@ -413,6 +413,20 @@ fn check_arrivals(arrivals: &[u32], inputs: usize) -> Checked
     let wrong = first_over(arrivals, 9999);
     if wrong < arrivals.len() {
         return Checked::Refused(Refusal::Arrival(wrong));
+    }
+    Checked::Passes
+}
+
+// 19 for the delays of so many pins, for gates that end at 0.
+pub fn check_falls(falls: &[u32], pins: usize) -> Checked
+    ensures { λ r. ⌜ r ≡ checked (fallRows pins (now (falls .entry))) ⌝ }
+{
+    if falls.len() != pins {
+        return Checked::Refused(Refusal::Fall(pins));
+    }
+    let wrong = first_over(falls, 999);
+    if wrong < falls.len() {
+        return Checked::Refused(Refusal::Fall(wrong));
     }
     Checked::Passes
 }

@@ -130,7 +130,7 @@ module _ {file : List ℕ} {shape : Shape} {arrivals : List ℕ} (given : Given 
       let l = laid net (given .holds .valid) .below node cell m p j in
       ap (λ (n : ℕ). n + p .delay) (getD-take node tops (p .driver) 0 l ∙ b .is (p .driver) l))
       ∙ sym
-      (runs (circuitAt file shape arrivals) (given .holds .valid) arrives (replicate (net .inputs) false)
+      (runs (circuitAt file shape arrivals) (given .holds .valid) arrives tt (replicate (net .inputs) false)
       (length-replicate (net .inputs) false)
       .top-fixed node cell m)
 

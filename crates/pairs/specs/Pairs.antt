@@ -8,6 +8,7 @@ use lib.Dec.{T, leb, ltb, eqb}
 use Rattle.basics.specs.Lists.{any, keep, concatMap, upFrom, numbered}
 use Rattle.netlist.specs.Netlist.{Cell, Pin, Circuit}
 use Rattle.settle.specs.Settling.{topOf}
+use Rattle.pairs.specs.Rails.{railCount, nodeOf, railCells, railOutputs}
 
 -- I inputs, the nodes' tops, the outputs and the target
 module _ (I : ℕ) (top : ℕ → ℕ) (outputs : List ℕ) (target : ℕ) where
@@ -42,10 +43,23 @@ unfoldable pub flatPairs : List (ℕ × ℕ) → List ℕ
 flatPairs [] = []
 flatPairs (x ∷ xs) = x .0 ∷ x .1 ∷ flatPairs xs
 
+-- a rail's top is its node's
+abbrev pub railTop : Circuit → ℕ → ℕ
+railTop circuit rail = topOf circuit (nodeOf (circuit .slopes) rail)
+
+-- the times of the pairs of a rail, for a circuit's target
+abbrev pub timesFor : Circuit → ℕ → ℕ → List ℕ
+timesFor circuit target =
+    timesAt (railCount (circuit .slopes) (circuit .net .inputs)) (railTop circuit)
+    (railOutputs (circuit .slopes) (circuit .net .outputs)) target
+    (railCells (circuit .slopes) (circuit .net .gates))
+
 -- the pairs of a circuit's target, in the order of their variables
 unfoldable pub pairsFor : Circuit → ℕ → List (ℕ × ℕ)
 pairsFor circuit target =
-    pairList (circuit .net .inputs) (topOf circuit) (circuit .net .outputs) target (circuit .net .gates)
+    pairList (railCount (circuit .slopes) (circuit .net .inputs)) (railTop circuit)
+    (railOutputs (circuit .slopes) (circuit .net .outputs)) target
+    (railCells (circuit .slopes) (circuit .net .gates))
 
 -- the place of a pair in a list of pairs
 unfoldable pub pairPlace : ℕ → ℕ → List (ℕ × ℕ) → ℕ

@@ -21,6 +21,7 @@ use Rattle.refusal.specs.declared.Refusal.the-variants.{
   Step,
   Witness,
   Arrival,
+  Fall,
 }
 use Rattle.refusal.specs.Table.{numberOf, placeOf}
 
@@ -51,7 +52,8 @@ edges =
     ∷ case (Last 97) 13 97
     ∷ case (Step 96) 14 96
     ∷ case (Witness 95) 15 95
-    ∷ case (Arrival 94) 16 94 ∷ []
+    ∷ case (Arrival 94) 16 94
+    ∷ case (Fall 93) 19 93 ∷ []
 
 -- a row's refusal with the number and the place that the definitions give it
 abbrev pub asTold : Case → Case

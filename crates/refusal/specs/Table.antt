@@ -18,6 +18,7 @@ use Rattle.refusal.specs.declared.Refusal.the-variants.{
   Step,
   Witness,
   Arrival,
+  Fall,
 }
 
 -- column "Number"
@@ -38,6 +39,7 @@ numberOf (Last clause) = 13
 numberOf (Step clause) = 14
 numberOf (Witness time) = 15
 numberOf (Arrival position) = 16
+numberOf (Fall pin) = 19
 
 -- column "Its place"
 abbrev pub placeOf : Refusal → ℕ
@@ -57,3 +59,4 @@ placeOf (Last clause) = clause
 placeOf (Step clause) = clause
 placeOf (Witness time) = time
 placeOf (Arrival position) = position
+placeOf (Fall pin) = pin

@@ -20,6 +20,7 @@ pub enum Refusal {
     Step(usize),
     Witness(u32),
     Arrival(usize),
+    Fall(usize),
 }
 
 // What rows of the table say of what a call was given: it passes them all, or the first that refuses.
@@ -49,6 +50,7 @@ pub fn number(refusal: Refusal) -> u32
         Refusal::Step(_) => 14,
         Refusal::Witness(_) => 15,
         Refusal::Arrival(_) => 16,
+        Refusal::Fall(_) => 19,
     }
 }
 
@@ -73,5 +75,6 @@ pub fn place(refusal: Refusal) -> usize
         Refusal::Step(clause) => clause,
         Refusal::Witness(time) => time as usize,
         Refusal::Arrival(position) => position,
+        Refusal::Fall(pin) => pin,
     }
 }

@@ -16,10 +16,10 @@ use Rattle.refusal.specs.Rows.{Row, checked, unlessRefused, roomRow}
 use Rattle.refusal.proofs.Rows.{passed-by}
 use Rattle.netlist.specs.declared.Shape.{Shape}
 use Rattle.netlist.specs.declared.Opened.the-variants.{Accepted, Refused as Rejected}
-use Rattle.netlist.specs.Netlist.{Circuit, nodeCount}
+use Rattle.netlist.specs.Netlist.{Circuit, nodeCount, Slopes}
 use Rattle.netlist.specs.Kinds.{bit}
-use Rattle.netlist.specs.File.{circuitAt}
-use Rattle.netlist.specs.Open.{firstWrong, openCircuitOf}
+use Rattle.netlist.specs.File.{circuitAt, circuitWith}
+use Rattle.netlist.specs.Open.{firstWrong, openCircuitOf, slopeRows}
 use Rattle.netlist.proofs.Entries.{net-inputs, node-count}
 use Rattle.netlist.proofs.Calls.{list-passes, call-accepted, call-rejected}
 use Rattle.settle.specs.declared.Settled.{Settled}
@@ -87,23 +87,24 @@ by-checks file shape arrivals vector valuesRoom timesRoom g =
     (net-inputs file shape) (node-count file shape)
     ∙ sym g)
 
--- ---- the checks of the file and the arrivals, 1 to 7 and 16
+-- ---- the checks of the file, the arrivals and the slopes, 1 to 7, 16 and 19
 
-module _ (file arrivals vector : List ℕ) (valuesRoom timesRoom : ℕ) where
+module _ (file arrivals : List ℕ) (slopes : Slopes) (vector : List ℕ) (valuesRoom timesRoom : ℕ) where
   pub of-accepted : (shape : Shape) → openCircuitOf file arrivals ≡ Accepted shape →
-      evaluation file arrivals vector valuesRoom timesRoom ≡ evaluationOf
-      (circuitAt file shape arrivals) vector valuesRoom timesRoom
+      checked (slopeRows (shape .pins) slopes) ≡ Passes →
+      evaluation file arrivals slopes vector valuesRoom timesRoom ≡ evaluationOf
+      (circuitWith file shape arrivals slopes) vector valuesRoom timesRoom
   unfolding evaluation evaluationOf
-  of-accepted shape e =
-      call-accepted file arrivals (λ circuit. evaluationRows circuit vector valuesRoom timesRoom)
+  of-accepted shape e f =
+      call-accepted file arrivals slopes (λ circuit. evaluationRows circuit vector valuesRoom timesRoom)
       (refused valuesRoom timesRoom)
-      (λ circuit. settled circuit vector valuesRoom timesRoom) e
+      (λ circuit. settled circuit vector valuesRoom timesRoom) e f
 
   pub of-rejected : (refusal : Refusal) → openCircuitOf file arrivals ≡ Rejected refusal →
-      evaluation file arrivals vector valuesRoom timesRoom ≡ refused valuesRoom timesRoom refusal
+      evaluation file arrivals slopes vector valuesRoom timesRoom ≡ refused valuesRoom timesRoom refusal
   unfolding evaluation
   of-rejected refusal e =
-      call-rejected file arrivals (λ circuit. evaluationRows circuit vector valuesRoom timesRoom)
+      call-rejected file arrivals slopes (λ circuit. evaluationRows circuit vector valuesRoom timesRoom)
       (refused valuesRoom timesRoom)
       (λ circuit. settled circuit vector valuesRoom timesRoom) e
 

@@ -88,7 +88,7 @@ net-arrives file {shape} a = a .long ∙ sym (net-inputs file shape)
 pub tops-early : {file : List ℕ} {shape : Shape} {arrivals : List ℕ} → Given file shape arrivals → (n : ℕ) →
     topOf (circuitAt file shape arrivals) n ≤ latest
 tops-early {file} {shape} {arrivals} g n =
-    tops-small (circuitAt file shape arrivals) (g .holds .valid) (net-arrives file (g .arrived)) (g .arrived .early) n
+    tops-small (circuitAt file shape arrivals) (g .holds .valid) (net-arrives file (g .arrived)) tt (g .arrived .early) n
 
 module _ {file : List ℕ} {shape : Shape} {arrivals : List ℕ} (h : Holds file shape) (at : Arrived shape arrivals)
     (vector : List Bool) (long : length vector ≡ shape .inputs) where
@@ -161,7 +161,7 @@ module _ {file : List ℕ} {shape : Shape} {arrivals : List ℕ} (h : Holds file
     unfolding gateSignal pinsFrom cellAt cellOf
     gate-settled gate e =
         let facts =
-        runs (circuitAt file shape arrivals) (h .valid) arrives vector vector-long
+        runs (circuitAt file shape arrivals) (h .valid) arrives tt vector vector-long
         in
         ap (λ (g : Gate). gateSignal doneValues doneTimes (g .kind) (pinsFrom file shape (g .first) (g .count))) e
         ∙ ap₂ (λ (v : Bool) (t : ℕ). record { value = v; at = t })
@@ -197,7 +197,7 @@ module _ {file : List ℕ} {shape : Shape} {arrivals : List ℕ} (h : Holds file
           paired = b ∙ sym a;
           early =
               take-within latest (shape .inputs + number) (allTimes file shape arrivals vector)
-              (times-small (circuitAt file shape arrivals) (h .valid) arrives (at .early) vector);
+              (times-small (circuitAt file shape arrivals) (h .valid) arrives tt (at .early) vector);
         }
 
 -- ---- the loop's invariant: the inputs' nodes and those of the first gates are done

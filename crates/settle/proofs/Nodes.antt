@@ -5,10 +5,10 @@
 -- `late`), and with accepted arrivals tops-small, times-small, circuit-small; zero-time and zero-top (all inputs at 0);
 -- circuit-late. Assumes nothing.
 use mathlib.Core.Path.{_≡_, refl, sym, ap, _∙_, subst}
-use mathlib.Core.Bool.{Bool, false}
-use mathlib.Core.List.{List, [], List·Memᴰ}
+use mathlib.Core.Bool.{Bool, true, false}
+use mathlib.Core.List.{List, [], _∷_, List·Memᴰ, List·Memᴰ·head, List·Memᴰ·tail}
 use mathlib.Core.Logic.{_⊎_, inl, inr}
-use Prim.Native.Nat.{ℕ, zero, suc, _+_, _-_, _*_, _≤_, _<_}
+use Prim.Native.Nat.{ℕ, zero, suc, _+_, _-_, _*_, _≤_, _<_, max}
 use native.Mathlib.Omega.{arith}
 use lib.Dec.{T, leb, ltb, ltb→lt, nltb→le, not-T}
 use lib.ListN.{length, getD, take, length-replicate, getD-replicate, List·getD-eq-default}
@@ -16,6 +16,9 @@ use Rattle.basics.specs.Lists.{any}
 use Rattle.basics.proofs.Truth.{decide}
 use Rattle.basics.proofs.Lists.{all-at}
 use Rattle.netlist.specs.Netlist.{Netlist, Circuit, Cell, Pin, atZero, nodes, nodeCount, takes, gateFits, valid}
+use Rattle.netlist.specs.Netlist.{Slopes, alike, apart, pinsFor, slowest}
+use Rattle.netlist.specs.Holds.{Small}
+use Rattle.netlist.proofs.Slopes.{pins-for-only, slowest-only}
 use Rattle.netlist.specs.Open.{latestArrival}
 use Rattle.netlist.proofs.Ranges.{numbered-has, numbered-only}
 use Rattle.netlist.proofs.Valid.{valid-gates, valid-gates-few, fits-takes, fits-below, fits-small}
@@ -27,6 +30,7 @@ use Rattle.settle.specs.Settling.{
   readyAt,
   valuesOf,
   valueOf,
+  endsAt,
   timesOf,
   timeOf,
   topsOf,
@@ -54,12 +58,14 @@ pub record Laid (I N : ℕ) (gs : List (ℕ × Cell)) : Type 0 where
   pub taken : (n : ℕ) (cell : Cell) → List·Memᴰ (n, cell) gs → T (takes (cell .kind) (length (cell .pins)))
 
 -- values, times and tops of the nodes are what the rules say
-pub record Runs (I N : ℕ) (gs : List (ℕ × Cell)) (value : ℕ → Bool) (time top : ℕ → ℕ) : Type 0 where
+pub record Runs (slopes : Slopes) (I N : ℕ) (gs : List (ℕ × Cell)) (value : ℕ → Bool) (time top : ℕ → ℕ) : Type 0 where
   pub value-fixed : (n : ℕ) (cell : Cell) → List·Memᴰ (n, cell) gs →
       value n ≡ gateValue (λ (p : Pin). value (p .driver)) (cell .kind) (cell .pins)
   pub time-fixed : (n : ℕ) (cell : Cell) → List·Memᴰ (n, cell) gs →
-      time n ≡ settles (λ (p : Pin). value (p .driver)) (readyAt time) (cell .kind) (cell .pins)
-  pub top-fixed : (n : ℕ) (cell : Cell) → List·Memᴰ (n, cell) gs → top n ≡ last (readyAt top) (cell .pins)
+      time n
+      ≡ settles (λ (p : Pin). value (p .driver)) (readyAt time) (cell .kind) (pinsFor slopes (value n) (cell .pins))
+  pub top-fixed : (n : ℕ) (cell : Cell) → List·Memᴰ (n, cell) gs →
+      top n ≡ last (readyAt top) (slowest slopes (cell .pins))
   pub input-time : (n : ℕ) → n < I → time n ≡ top n
   pub time-top : (n : ℕ) → n < N → time n ≤ top n
 
@@ -67,11 +73,13 @@ pub record Runs (I N : ℕ) (gs : List (ℕ × Cell)) (value : ℕ → Bool) (ti
 abbrev valueStep : Cell → (ℕ → Bool) → Bool
 valueStep cell value = gateValue (λ (p : Pin). value (p .driver)) (cell .kind) (cell .pins)
 
-abbrev timeStep : (ℕ → Bool) → Cell → (ℕ → ℕ) → ℕ
-timeStep value cell time = settles (λ (p : Pin). value (p .driver)) (readyAt time) (cell .kind) (cell .pins)
+abbrev timeStep : Circuit → List Bool → Cell → (ℕ → ℕ) → ℕ
+timeStep circuit vector cell time =
+    settles (λ (p : Pin). valueOf (circuit .net) vector (p .driver)) (readyAt time) (cell .kind)
+    (pinsFor (circuit .slopes) (endsAt (circuit .net) vector cell) (cell .pins))
 
-abbrev topStep : Cell → (ℕ → ℕ) → ℕ
-topStep cell top = last (readyAt top) (cell .pins)
+abbrev topStep : Slopes → Cell → (ℕ → ℕ) → ℕ
+topStep slopes cell top = last (readyAt top) (slowest slopes (cell .pins))
 
 -- each input has an arrival
 abbrev pub Arrives : Circuit → Type 0
@@ -88,14 +96,14 @@ pub times-length : (circuit : Circuit) (vector : List Bool) → Arrives circuit 
 unfolding timesOf
 times-length circuit vector e =
     let f =
-    grow-length 0 (timeStep (valueOf (circuit .net) vector)) (circuit .arrivals) (circuit .net .gates)
+    grow-length 0 (timeStep circuit vector) (circuit .arrivals) (circuit .net .gates)
     in
     omega arith
 
 pub tops-length : (circuit : Circuit) → Arrives circuit → length (topsOf circuit) ≡ nodeCount (circuit .net)
 unfolding topsOf
 tops-length circuit e =
-    let f = grow-length 0 topStep (circuit .arrivals) (circuit .net .gates) in omega arith
+    let f = grow-length 0 (topStep (circuit .slopes)) (circuit .arrivals) (circuit .net .gates) in omega arith
 
 -- the values begin with the vector
 pub values-begin : (net : Netlist) (vector : List Bool) → take (length vector) (valuesOf net vector) ≡ vector
@@ -107,12 +115,12 @@ pub times-begin : (circuit : Circuit) (vector : List Bool) →
     take (length (circuit .arrivals)) (timesOf circuit vector) ≡ circuit .arrivals
 unfolding timesOf
 times-begin circuit vector =
-    grow-begins 0 (timeStep (valueOf (circuit .net) vector)) (circuit .arrivals) (circuit .net .gates)
+    grow-begins 0 (timeStep circuit vector) (circuit .arrivals) (circuit .net .gates)
 
 -- and so do the tops
 pub tops-begin : (circuit : Circuit) → take (length (circuit .arrivals)) (topsOf circuit) ≡ circuit .arrivals
 unfolding topsOf
-tops-begin circuit = grow-begins 0 topStep (circuit .arrivals) (circuit .net .gates)
+tops-begin circuit = grow-begins 0 (topStep (circuit .slopes)) (circuit .arrivals) (circuit .net .gates)
 
 -- an input has the vector's value
 pub input-value : (net : Netlist) (vector : List Bool) → length vector ≡ net .inputs → (n : ℕ) → n < net .inputs →
@@ -125,13 +133,13 @@ pub input-at : (circuit : Circuit) (vector : List Bool) → Arrives circuit → 
     timeOf circuit vector n ≡ getD (circuit .arrivals) n 0
 unfolding timesOf
 input-at circuit vector e n h =
-    grow-keeps 0 (timeStep (valueOf (circuit .net) vector)) (circuit .arrivals) (circuit .net .gates) n (omega arith)
+    grow-keeps 0 (timeStep circuit vector) (circuit .arrivals) (circuit .net .gates) n (omega arith)
 
 -- and its top is that
 pub input-top : (circuit : Circuit) → Arrives circuit → (n : ℕ) → n < circuit .net .inputs →
     topOf circuit n ≡ getD (circuit .arrivals) n 0
 unfolding topsOf
-input-top circuit e n h = grow-keeps 0 topStep (circuit .arrivals) (circuit .net .gates) n (omega arith)
+input-top circuit e n h = grow-keeps 0 (topStep (circuit .slopes)) (circuit .arrivals) (circuit .net .gates) n (omega arith)
 
 -- a node is an input or a gate
 pub input-or-gate : (net : Netlist) (n : ℕ) → n < nodeCount net →
@@ -211,28 +219,58 @@ module _ (net : Netlist) (v : T (valid net)) where
       gateValue-cong (λ (p : Pin). f (p .driver)) (λ (p : Pin). h (p .driver)) (cell .kind) (cell .pins) q)
       vector (net .gates) (net .inputs) (sym e) (valid-gates net v) n cell m
 
-module _ (circuit : Circuit) (v : T (valid (circuit .net))) (e : Arrives circuit) where
+-- a pin that is ready by one delay is not ready after the larger one; nor are all of them
+last-slowest : (time top : ℕ → ℕ) (slopes : Slopes) (v : Bool) (ps : List Pin) →
+    ((p : Pin) → List·Memᴰ p ps → time (p .driver) ≤ top (p .driver)) →
+    last (readyAt time) (pinsFor slopes v ps) ≤ last (readyAt top) (slowest slopes ps)
+last-slowest time top alike v ps r =
+    last-mono (readyAt time) (readyAt top) ps (λ p i. let q = r p i in omega arith)
+last-slowest time top (apart falls) true [] r = omega arith
+last-slowest time top (apart falls) true (p ∷ ps) r =
+    let a = r p (List·Memᴰ·head refl) in
+    let b = last-slowest time top (apart falls) true ps (λ q i. r q (List·Memᴰ·tail i)) in
+    omega arith
+last-slowest time top (apart falls) false [] r = omega arith
+last-slowest time top (apart falls) false (p ∷ ps) r =
+    let a = r p (List·Memᴰ·head refl) in
+    let b = last-slowest time top (apart falls) false ps (λ q i. r q (List·Memᴰ·tail i)) in
+    omega arith
+
+-- two tests of a node that agree on a gate's drivers are ready at the same time at each of its pins, whatever its delays
+ready-same : (f h : ℕ → ℕ) (ps : List Pin) → ((p : Pin) → List·Memᴰ p ps → f (p .driver) ≡ h (p .driver)) → (q : Pin) →
+    (p : Pin) × List·Memᴰ p ps × (q .driver ≡ p .driver) × (q .delay ≤ max (p .delay) 999) →
+    readyAt f q ≡ readyAt h q
+ready-same f h ps same q w =
+    ap (λ t. t + q .delay) (ap f (w .2) ∙ same (w .0) (w .1) ∙ ap h (sym (w .2)))
+
+module _ (circuit : Circuit) (v : T (valid (circuit .net))) (e : Arrives circuit) (small : Small (circuit .slopes)) where
   -- a gate's top, from its drivers' tops
   top-fixed : (n : ℕ) (cell : Cell) → List·Memᴰ (n, cell) (nodes (circuit .net)) →
-      topOf circuit n ≡ last (readyAt (topOf circuit)) (cell .pins)
+      topOf circuit n ≡ last (readyAt (topOf circuit)) (slowest (circuit .slopes) (cell .pins))
   unfolding topsOf
   top-fixed n cell m =
-      grow-fixed 0 topStep
-      (λ cell f h q. last-cong (readyAt f) (readyAt h) (cell .pins) (λ p i. ap (λ t. t + p .delay) (q p i)))
+      grow-fixed 0 (topStep (circuit .slopes))
+      (λ cell f h same.
+      last-cong (readyAt f) (readyAt h) (slowest (circuit .slopes) (cell .pins))
+      (λ q i. ready-same f h (cell .pins) same q (slowest-only (circuit .slopes) small (cell .pins) q i)))
       (circuit .arrivals) (circuit .net .gates) (circuit .net .inputs) (sym e) (valid-gates (circuit .net) v) n cell m
 
   -- a gate's time, from its drivers' values and times
   time-fixed : (vector : List Bool) (n : ℕ) (cell : Cell) → List·Memᴰ (n, cell) (nodes (circuit .net)) →
       timeOf circuit vector n
       ≡ settles (λ (p : Pin). valueOf (circuit .net) vector (p .driver)) (readyAt (timeOf circuit vector)) (cell .kind)
-      (cell .pins)
+      (pinsFor (circuit .slopes) (endsAt (circuit .net) vector cell) (cell .pins))
   unfolding timesOf
   time-fixed vector n cell m =
-      grow-fixed 0 (timeStep (valueOf (circuit .net) vector))
-      (λ cell f h q.
+      grow-fixed 0 (timeStep circuit vector)
+      (λ cell f h same.
+      let pins : List Pin = pinsFor (circuit .slopes) (endsAt (circuit .net) vector cell) (cell .pins) in
       settles-cong (λ (p : Pin). valueOf (circuit .net) vector (p .driver))
       (λ (p : Pin). valueOf (circuit .net) vector (p .driver))
-      (readyAt f) (readyAt h) (cell .kind) (cell .pins) (λ p i. refl) (λ p i. ap (λ t. t + p .delay) (q p i)))
+      (readyAt f) (readyAt h) (cell .kind) pins (λ p i. refl)
+      (λ q i.
+      ready-same f h (cell .pins) same q
+      (pins-for-only (circuit .slopes) small (endsAt (circuit .net) vector cell) (cell .pins) q i)))
       (circuit .arrivals) (circuit .net .gates) (circuit .net .inputs) (sym e) (valid-gates (circuit .net) v) n cell m
 
   time-top : (vector : List Bool) (n : ℕ) → n < nodeCount (circuit .net) → timeOf circuit vector n ≤ topOf circuit n
@@ -242,26 +280,31 @@ module _ (circuit : Circuit) (v : T (valid (circuit .net))) (e : Arrives circuit
       (λ n cell m r.
       let a = time-fixed vector n cell m in
       let b = top-fixed n cell m in
+      let value = endsAt (circuit .net) vector cell in
       let c =
       settles-last (λ (p : Pin). valueOf (circuit .net) vector (p .driver)) (readyAt (timeOf circuit vector))
-      (cell .kind)
-      (cell .pins)
+      (cell .kind) (pinsFor (circuit .slopes) value (cell .pins))
       in
       let d =
-      last-mono (readyAt (timeOf circuit vector)) (readyAt (topOf circuit)) (cell .pins)
-      (λ p i. let q = r p i in omega arith)
+      last-slowest (timeOf circuit vector) (topOf circuit) (circuit .slopes) value (cell .pins) r
       in
       omega arith)
 
   -- the fixpoint equations, and times against tops
   pub runs : (vector : List Bool) → length vector ≡ circuit .net .inputs →
-      Runs (circuit .net .inputs) (nodeCount (circuit .net)) (nodes (circuit .net)) (valueOf (circuit .net) vector)
-      (timeOf circuit vector)
-      (topOf circuit)
+      Runs (circuit .slopes) (circuit .net .inputs) (nodeCount (circuit .net)) (nodes (circuit .net))
+      (valueOf (circuit .net) vector) (timeOf circuit vector) (topOf circuit)
   runs vector f =
       record {
         value-fixed = value-fixed (circuit .net) v vector f;
-        time-fixed = time-fixed vector;
+        time-fixed =
+            λ n cell m.
+            time-fixed vector n cell m
+            ∙ ap
+            (λ b.
+            settles (λ (p : Pin). valueOf (circuit .net) vector (p .driver)) (readyAt (timeOf circuit vector))
+            (cell .kind) (pinsFor (circuit .slopes) b (cell .pins)))
+            (sym (value-fixed (circuit .net) v vector f n cell m));
         top-fixed = top-fixed;
         input-time = λ n h. input-at circuit vector e n h ∙ sym (input-top circuit e n h);
         time-top = time-top vector;
@@ -278,12 +321,15 @@ module _ (circuit : Circuit) (v : T (valid (circuit .net))) (e : Arrives circuit
       let a = top-fixed n cell m in
       let low = node-range (circuit .net) v n cell m .0 in
       let b =
-      last-within (readyAt (topOf circuit)) (cell .pins) (late + (suc n - circuit .net .inputs) * 999)
-      (λ p i.
-      let q = r p i in
-      let s = laid (circuit .net) v .small n cell m p i in
-      let l = laid (circuit .net) v .below n cell m p i in
-      omega arith)
+      last-within (readyAt (topOf circuit)) (slowest (circuit .slopes) (cell .pins))
+      (late + (suc n - circuit .net .inputs) * 999)
+      (λ q i.
+      let w = slowest-only (circuit .slopes) small (cell .pins) q i in
+      let t : topOf circuit (q .driver) ≡ topOf circuit (w .0 .driver) = ap (topOf circuit) (w .2) in
+      let h = r (w .0) (w .1) in
+      let s = laid (circuit .net) v .small n cell m (w .0) (w .1) in
+      let l = laid (circuit .net) v .below n cell m (w .0) (w .1) in
+      omega (arith, w .3))
       in
       omega arith)
 
@@ -325,15 +371,15 @@ module _ (circuit : Circuit) (v : T (valid (circuit .net))) (e : Arrives circuit
 
 -- ---- arrivals that row 16 accepts
 
-module _ (circuit : Circuit) (v : T (valid (circuit .net))) (e : Arrives circuit)
+module _ (circuit : Circuit) (v : T (valid (circuit .net))) (e : Arrives circuit) (small : Small (circuit .slopes))
     (early : (n : ℕ) → getD (circuit .arrivals) n 0 ≤ latestArrival) where
   -- no top is above 448 * 999 after the latest arrival
   pub tops-small : (n : ℕ) → topOf circuit n ≤ latest
-  tops-small n = let b = tops-within circuit v e latestArrival (λ n h. early n) n in omega arith
+  tops-small n = let b = tops-within circuit v e small latestArrival (λ n h. early n) n in omega arith
 
   -- nor any time
   pub times-small : (vector : List Bool) (n : ℕ) → timeOf circuit vector n ≤ latest
-  times-small vector n = let b = times-within circuit v e latestArrival (λ n h. early n) vector n in omega arith
+  times-small vector n = let b = times-within circuit v e small latestArrival (λ n h. early n) vector n in omega arith
 
   -- nor the circuit's
   pub circuit-small : (vector : List Bool) → circuitTime circuit vector ≤ latest

@@ -5,6 +5,7 @@ use mathlib.Core.List.{List}
 use Prim.Native.Nat.{ℕ}
 use Rattle.settle.specs.declared.Settled.{Settled}
 use Rattle.settle.specs.Promise.{Evaluation, Meets, evaluation}
+use Rattle.netlist.specs.Netlist.{Slopes}
 
 -- two outcomes of one promise
 pub same-outcome : {promised : Evaluation} {a b : Settled} {values times values′ times′ : List ℕ} →
@@ -14,9 +15,9 @@ same-outcome m n =
     (m .answer-is ∙ sym (n .answer-is), m .values-are ∙ sym (n .values-are), m .times-are ∙ sym (n .times-are))
 
 -- so two calls of `evaluate` on the same file, arrivals, vector and rooms end alike
-pub unique : (file arrivals vector : List ℕ) (valuesRoom timesRoom : ℕ) {a b : Settled}
+pub unique : (file arrivals : List ℕ) (slopes : Slopes) (vector : List ℕ) (valuesRoom timesRoom : ℕ) {a b : Settled}
     {values times values′ times′ : List ℕ} →
-    Meets (evaluation file arrivals vector valuesRoom timesRoom) a values times →
-    Meets (evaluation file arrivals vector valuesRoom timesRoom) b values′ times′ →
+    Meets (evaluation file arrivals slopes vector valuesRoom timesRoom) a values times →
+    Meets (evaluation file arrivals slopes vector valuesRoom timesRoom) b values′ times′ →
     (a ≡ b) × (values ≡ values′) × (times ≡ times′)
-unique file arrivals vector valuesRoom timesRoom m n = same-outcome m n
+unique file arrivals slopes vector valuesRoom timesRoom m n = same-outcome m n

@@ -27,6 +27,7 @@ use Rattle.netlist.specs.Edges.{written}
 use Rattle.settle.specs.declared.Settled.the-variants.{At}
 use Rattle.settle.specs.Settling.{gateValue, settles, grow, valuesOf, timesOf, topsOf, circuitTime}
 use Rattle.settle.specs.Promise.{Evaluation, evaluation, givenRows, settled}
+use Rattle.netlist.specs.Netlist.{alike}
 
 -- one case: a file, the arrivals of its inputs, a vector, and what an evaluation with just enough room gives
 pub record Case : Type 0 where
@@ -101,7 +102,7 @@ lateCases =
 
 -- the evaluation of a case
 abbrev run : Case → Evaluation
-run c = evaluation (c .file) (c .arrivals) (c .vector) (length (c .expected .values)) (length (c .expected .times))
+run c = evaluation (c .file) (c .arrivals) alike (c .vector) (length (c .expected .values)) (length (c .expected .times))
 
 -- each case is evaluated as expected
 pub cases-hold : map run cases ≡ map (λ c. c .expected) cases
@@ -114,7 +115,7 @@ cases-hold = refl
 
 -- the tops of circuit A: its topological delay is 5, and 6 with b at 4
 pub tops-hold :
-    (topsOf (circuitOf circuitA (0 ∷ 0 ∷ [])) ≡ 0 ∷ 0 ∷ 3 ∷ 4 ∷ 5 ∷ [])
-    × (topsOf (circuitOf circuitA (0 ∷ 4 ∷ [])) ≡ 0 ∷ 4 ∷ 3 ∷ 5 ∷ 6 ∷ [])
+    (topsOf (circuitOf circuitA (0 ∷ 0 ∷ []) alike) ≡ 0 ∷ 0 ∷ 3 ∷ 4 ∷ 5 ∷ [])
+    × (topsOf (circuitOf circuitA (0 ∷ 4 ∷ []) alike) ≡ 0 ∷ 4 ∷ 3 ∷ 5 ∷ 6 ∷ [])
 unfolding circuitA pinsFit kindOf tableBytes shapeOf gateAt pinAt pinsFrom cellOf cellAt netlistAt grow topsOf
 tops-hold = (refl, refl)

@@ -30,6 +30,7 @@ use Rattle.settle.specs.declared.Settled.the-variants.{At}
 use Rattle.settle.specs.Settling.{gateValue, settles, grow, valuesOf, timesOf, circuitTime}
 use Rattle.settle.specs.Promise.{Evaluation, refused, evaluation, givenRows, settled}
 use Rattle.settle.specs.Cases.{Case, lateCases}
+use Rattle.netlist.specs.Netlist.{alike}
 
 -- a circuit of one gate: kind, delays, vector, and the gate's value and time
 abbrev gives : ℕ → List ℕ → List ℕ → ℕ → ℕ → Case
@@ -136,7 +137,7 @@ edges = everyKind ++ (orders ++ (lateCases ++ lateOrders))
 pub edges-hold :
     map
     (λ (c : Case).
-    evaluation (c .file) (c .arrivals) (c .vector) (length (c .expected .values)) (length (c .expected .times))) edges
+    evaluation (c .file) (c .arrivals) alike (c .vector) (length (c .expected .values)) (length (c .expected .times))) edges
     ≡ map (λ (c : Case). c .expected) edges
 unfolding
     edges everyKind orders lateCases lateOrders written oneGate circuitA netlistRows firstWrong countWrong backWrong

@@ -1,4 +1,4 @@
--- What `evaluate` answers and leaves in the two lent slices, for every input: 1..7, 16 and
+-- What `evaluate` answers and leaves in the two lent slices, for every input: 1..7, 16, 19 and
 -- 8, then 9 for values, then for times.
 -- Interface: evaluation, Meets.
 use mathlib.Core.Path.{_≡_}
@@ -10,7 +10,7 @@ use lib.ListN.{length, replicate}
 use Rattle.refusal.specs.declared.Refusal.{Refusal}
 use Rattle.refusal.specs.declared.Refusal.the-variants.{Vector}
 use Rattle.refusal.specs.Rows.{Row, checked, unlessRefused, roomRow}
-use Rattle.netlist.specs.Netlist.{Circuit, nodeCount}
+use Rattle.netlist.specs.Netlist.{Circuit, nodeCount, Slopes}
 use Rattle.netlist.specs.Kinds.{bit}
 use Rattle.netlist.specs.Open.{listRows, callOver}
 use Rattle.settle.specs.declared.Settled.{Settled}
@@ -67,9 +67,9 @@ evaluationOf circuit vector valuesRoom timesRoom =
     unlessRefused (checked (evaluationRows circuit vector valuesRoom timesRoom)) (refused valuesRoom timesRoom)
     (settled circuit vector valuesRoom timesRoom)
 
--- of any bytes, any arrivals and any vector, with room for so many values and times
-unfoldable pub evaluation : List ℕ → List ℕ → List ℕ → ℕ → ℕ → Evaluation
-evaluation file arrivals vector valuesRoom timesRoom =
-    callOver file arrivals (λ circuit. evaluationRows circuit vector valuesRoom timesRoom)
+-- of any bytes, any arrivals, any slopes and any vector, with room for so many values and times
+unfoldable pub evaluation : List ℕ → List ℕ → Slopes → List ℕ → ℕ → ℕ → Evaluation
+evaluation file arrivals slopes vector valuesRoom timesRoom =
+    callOver file arrivals slopes (λ circuit. evaluationRows circuit vector valuesRoom timesRoom)
     (refused valuesRoom timesRoom)
     (λ circuit. settled circuit vector valuesRoom timesRoom)

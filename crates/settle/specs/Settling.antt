@@ -6,7 +6,7 @@ use lib.ListN.{getD}
 use Rattle.basics.specs.Lists.{any, all, keep}
 use Rattle.netlist.specs.declared.Kind.{Kind}
 use Rattle.netlist.specs.declared.Kind.the-variants.{Simple, Parity, Mux}
-use Rattle.netlist.specs.Netlist.{Netlist, Circuit, Cell, Pin}
+use Rattle.netlist.specs.Netlist.{Netlist, Circuit, Cell, Pin, pinsFor, slowest}
 
 -- ---- one gate, over any kind of pins: what `value` a pin has, and when it is `ready`
 
@@ -95,10 +95,18 @@ valuesOf net vector = grow false (λ g value. gateValue (λ p. value (p .driver)
 abbrev pub valueOf : Netlist → List Bool → ℕ → Bool
 valueOf net vector node = getD (valuesOf net vector) node false
 
--- the settling times of all nodes; the inputs settle at their arrivals
+-- a gate's final value, by its drivers' final values
+abbrev pub endsAt : Netlist → List Bool → Cell → Bool
+endsAt net vector g = gateValue (λ p. valueOf net vector (p .driver)) (g .kind) (g .pins)
+
+-- the settling times of all nodes; the inputs settle at their arrivals, and a gate goes by the delays for its own final
+-- value (rule S8)
 unfoldable pub timesOf : Circuit → List Bool → List ℕ
 timesOf circuit vector =
-    grow 0 (λ g time. settles (λ p. valueOf (circuit .net) vector (p .driver)) (readyAt time) (g .kind) (g .pins))
+    grow 0
+    (λ g time.
+    settles (λ p. valueOf (circuit .net) vector (p .driver)) (readyAt time) (g .kind)
+    (pinsFor (circuit .slopes) (endsAt (circuit .net) vector g) (g .pins)))
     (circuit .arrivals) (circuit .net .gates)
 
 -- a node's settling time
@@ -109,9 +117,12 @@ timeOf circuit vector node = getD (timesOf circuit vector) node 0
 unfoldable pub circuitTime : Circuit → List Bool → ℕ
 circuitTime circuit vector = last (timeOf circuit vector) (circuit .net .outputs)
 
--- the tops of all nodes (rule S7): an input's is its arrival, a gate's the largest of a driver's top plus the delay
+-- the tops of all nodes (rule S7): an input's is its arrival, a gate's the largest of a driver's top plus the delay, the
+-- larger one where there are two
 unfoldable pub topsOf : Circuit → List ℕ
-topsOf circuit = grow 0 (λ g top. last (readyAt top) (g .pins)) (circuit .arrivals) (circuit .net .gates)
+topsOf circuit =
+    grow 0 (λ g top. last (readyAt top) (slowest (circuit .slopes) (g .pins))) (circuit .arrivals)
+    (circuit .net .gates)
 
 -- a node's top
 abbrev pub topOf : Circuit → ℕ → ℕ

@@ -10,7 +10,7 @@ ghost use Prim.Native.Nat.{_+_, _-_, _≤_, _<_, max, min};
 ghost use lib.Dec.{T, ltb};
 ghost use lib.ListN.{length, getD, take};
 ghost use Rattle.netlist.specs.Kinds.{bit};
-ghost use Rattle.netlist.specs.Netlist.{takes};
+ghost use Rattle.netlist.specs.Netlist.{takes, alike};
 ghost use Rattle.netlist.specs.File.{pinAt, netlistAt, circuitAt, pinsFrom};
 ghost use Rattle.netlist.specs.Open.{firstWrong};
 ghost use Rattle.netlist.specs.Holds.{Holds, Given};
@@ -385,7 +385,7 @@ pub fn evaluate(
     values: &mut [u8],
     times: &mut [u32],
 ) -> Settled
-    ensures { λ r. ⌜ Meets (evaluation (now (file .entry)) (now (arrivals .entry)) (now (vector .entry))
+    ensures { λ r. ⌜ Meets (evaluation (now (file .entry)) (now (arrivals .entry)) alike (now (vector .entry))
         (length (now (values .entry))) (length (now (times .entry)))) r
         (now (values .exit)) (now (times .exit)) ⌝ }
 {

@@ -1,5 +1,6 @@
 -- `formula::build` meets its contract: what `open` and `arrived` answer decides the row. Assumes nothing.
 use mathlib.Core.Path.{_≡_, refl, sym, _∙_}
+use Rattle.netlist.specs.Netlist.{alike}
 use borrow.Author.Needs.{needs}
 use lib.ListN.{length}
 use Rattle.netlist.specs.Open.{openCircuitOf}
@@ -44,8 +45,8 @@ returns c =
     let known = built .before .before .before .before in
     let after = known .before .before in
     let args = start after .args in
-    rw (of-accepted (args .file .now) (args .arrivals .now) (args .target) (length (args .pairs .now))
-    (length (args .formula .now)) _ (sym (asked after) ∙ known .opened .given .1))
+    rw (of-accepted (args .file .now) (args .arrivals .now) alike (args .target) (length (args .pairs .now))
+    (length (args .formula .now)) _ (sym (asked after) ∙ known .opened .given .1) refl)
     (built .build-from .ensures)
 
 enum-known-opened-2 : tie.Need-enum-known-opened-2
@@ -69,7 +70,7 @@ returns-2 c =
     let known = zeroed .before .before .before in
     let after = known .before .before in
     let args = start after .args in
-    rw (of-rejected (args .file .now) (args .arrivals .now) (args .target) (length (args .pairs .now))
+    rw (of-rejected (args .file .now) (args .arrivals .now) alike (args .target) (length (args .pairs .now))
     (length (args .formula .now)) _ (sym (asked after) ∙ known .opened2 .given .1))
     (record { answer-is = refl; pairs-are = zeroed .zero-u32 .ensures; formula-is = c .before .zero-i32 .ensures })
 

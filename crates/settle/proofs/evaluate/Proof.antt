@@ -1,6 +1,7 @@
 -- `settle::evaluate` meets its contract: the checks of the file and the arrivals, and then the evaluation of an
 -- accepted file. Assumes nothing.
-use mathlib.Core.Path.{_≡_, sym, _∙_}
+use mathlib.Core.Path.{refl, _≡_, sym, _∙_}
+use Rattle.netlist.specs.Netlist.{alike}
 use borrow.Author.Needs.{needs}
 use lib.ListN.{length}
 use Rattle.netlist.specs.Open.{openCircuitOf}
@@ -52,8 +53,8 @@ returns c =
     let after = known .before .before in
     let s = start after in
     rw
-    (L.of-accepted (s .args .file .now) (s .args .arrivals .now) (s .args .vector .now) (length (s .args .values .now))
-    (length (s .args .times .now)) _ (sym (asked after) ∙ known .opened .given .1))
+    (L.of-accepted (s .args .file .now) (s .args .arrivals .now) alike (s .args .vector .now) (length (s .args .values .now))
+    (length (s .args .times .now)) _ (sym (asked after) ∙ known .opened .given .1) refl)
     (call .evaluate-accepted .ensures)
 
 same-length-3 : tie.Need-same-length-3
@@ -69,7 +70,7 @@ returns-2 c =
     let after = known .before .before in
     let s = start after in
     rw
-    (L.of-rejected (s .args .file .now) (s .args .arrivals .now) (s .args .vector .now) (length (s .args .values .now))
+    (L.of-rejected (s .args .file .now) (s .args .arrivals .now) alike (s .args .vector .now) (length (s .args .values .now))
     (length (s .args .times .now)) _ (sym (asked after) ∙ known .opened2 .given .1))
     (call .refuse .ensures)
 

@@ -1,0 +1,50 @@
+-- A gate's pins with the delays for its final value, and with the larger ones: the same drivers, as many of them, delays
+-- that are small, and none above the larger. Laws: pins-for-length, pins-for-only, pins-for-slowest, slowest-only.
+-- Assumes nothing.
+use mathlib.Core.Path.{_≡_, refl, sym, ap, _∙_}
+use mathlib.Core.Bool.{Bool, true, false}
+use mathlib.Core.List.{List, [], _∷_, map, List·Memᴰ, List·Memᴰ·head, List·Memᴰ·tail}
+use Prim.Native.Nat.{ℕ, suc, _≤_, max}
+use native.Mathlib.Omega.{arith}
+use lib.ListN.{length, getD}
+use Rattle.basics.proofs.Lists.{map-mem}
+use Rattle.netlist.specs.Netlist.{Pin, Slopes, alike, apart, delayed, fallOf, pinsFor, slowest}
+use Rattle.netlist.specs.Holds.{Small}
+
+-- a list of pins with other delays
+module _ (delay : Pin → ℕ) where
+  delayed-length : (ps : List Pin) → length (map (delayed delay) ps) ≡ length ps
+  delayed-length [] = refl
+  delayed-length (p ∷ ps) = ap suc (delayed-length ps)
+
+-- as many pins
+pub pins-for-length : (slopes : Slopes) (v : Bool) (ps : List Pin) → length (pinsFor slopes v ps) ≡ length ps
+pins-for-length alike v ps = refl
+pins-for-length (apart falls) true ps = refl
+pins-for-length (apart falls) false ps = delayed-length (fallOf falls) ps
+
+-- each of them is a pin of the gate, by its driver and its number, and has its delay or the small one of the list
+pub pins-for-only : (slopes : Slopes) → Small slopes → (v : Bool) (ps : List Pin) (q : Pin) →
+    List·Memᴰ q (pinsFor slopes v ps) →
+    (p : Pin) × List·Memᴰ p ps × (q .driver ≡ p .driver) × (q .delay ≤ max (p .delay) 999)
+pins-for-only alike small v ps q m = (q, m, refl, omega arith)
+pins-for-only (apart falls) small true ps q m = (q, m, refl, omega arith)
+pins-for-only (apart falls) small false ps q m =
+    let w = map-mem (delayed (fallOf falls)) ps q m in (
+      w .0,
+      w .1,
+      ap (λ (x : Pin). x .driver) (w .2),
+      omega (arith, ap (λ (x : Pin). x .delay) (w .2), small (w .0 .number)),
+    )
+
+-- so is each with the larger delay
+pub slowest-only : (slopes : Slopes) → Small slopes → (ps : List Pin) (q : Pin) → List·Memᴰ q (slowest slopes ps) →
+    (p : Pin) × List·Memᴰ p ps × (q .driver ≡ p .driver) × (q .delay ≤ max (p .delay) 999)
+slowest-only alike small ps q m = (q, m, refl, omega arith)
+slowest-only (apart falls) small ps q m =
+    let w = map-mem (delayed (λ p. max (p .delay) (fallOf falls p))) ps q m in (
+      w .0,
+      w .1,
+      ap (λ (x : Pin). x .driver) (w .2),
+      omega (arith, ap (λ (x : Pin). x .delay) (w .2), small (w .0 .number)),
+    )
