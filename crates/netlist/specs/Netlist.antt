@@ -5,6 +5,8 @@ use Prim.Native.Nat.{ℕ, suc, _+_, max}
 use lib.Dec.{leb, ltb, eqb}
 use lib.ListN.{length, getD, replicate}
 use Rattle.basics.specs.Lists.{all, numbered}
+use Rattle.netlist.specs.declared.Form.{Form}
+use Rattle.netlist.specs.declared.Form.the-variants.{Single, RiseFall}
 use Rattle.netlist.specs.declared.Kind.{Kind}
 use Rattle.netlist.specs.declared.Kind.the-variants.{Simple, Parity, Mux}
 
@@ -30,6 +32,11 @@ pub record Netlist : Type 0 where
 pub data Slopes : Type 0 where
   alike : Slopes
   apart : List ℕ → Slopes
+
+-- by a form and the list that is lent beside the file
+abbrev pub slopesBy : Form → List ℕ → Slopes
+slopesBy Single falls = alike
+slopesBy RiseFall falls = apart falls
 
 -- a circuit: a netlist, when each of its inputs arrives, and how its delays depend on a gate's final value
 pub record Circuit : Type 0 where

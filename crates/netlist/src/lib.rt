@@ -22,6 +22,12 @@ pub enum Kind {
     Mux,
 }
 
+// Whether a pin has one delay, or one for each final value of its gate, the second list being lent beside the file.
+pub enum Form {
+    Single,
+    RiseFall,
+}
+
 // One gate: its kind, the number of its first pin, and how many pins it has.
 pub struct Gate {
     pub kind: Kind,
