@@ -19,6 +19,7 @@ use Rattle.refusal.specs.declared.Refusal.the-variants.{
   Step,
   Witness,
   Arrival,
+  Fall,
 }
 use Rattle.refusal.specs.Table.{numberOf}
 use Rattle.refusal.specs.declared.Checked.{Checked}
@@ -43,6 +44,7 @@ numbered (Last n) e = omega arith
 numbered (Step n) e = omega arith
 numbered (Witness n) e = omega arith
 numbered (Arrival n) e = omega arith
+numbered (Fall n) e = omega arith
 
 -- the answer whose number is 0
 pub only-accepted : (answer : Checked) → checkedOf answer .number ≡ 0 → answer ≡ Passes

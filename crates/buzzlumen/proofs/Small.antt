@@ -7,15 +7,16 @@ use native.Mathlib.Omega.{arith}
 use Rattle.refusal.specs.declared.Checked.{Checked}
 use Rattle.refusal.specs.declared.Checked.the-variants.{Passes, Refused as Fails}
 use Rattle.refusal.specs.Rows.{checked, unlessRefused}
+use Rattle.netlist.specs.declared.Shape.{Shape}
 use Rattle.netlist.specs.declared.Opened.{Opened}
 use Rattle.netlist.specs.declared.Opened.the-variants.{Accepted, Refused as Rejected}
-use Rattle.netlist.specs.Netlist.{nodeCount, Circuit}
-use Rattle.netlist.specs.File.{circuitAt}
-use Rattle.netlist.specs.Open.{openCircuitOf}
+use Rattle.netlist.specs.Netlist.{nodeCount, Circuit, Slopes}
+use Rattle.netlist.specs.File.{circuitWith}
+use Rattle.netlist.specs.Open.{openCircuitOf, slopeRows}
 use Rattle.netlist.proofs.Calls.{accepted}
 use Rattle.netlist.proofs.Entries.{node-count}
 use Rattle.formula.specs.Promise.{countsFor, refused, built, buildingRows, buildingOf, building}
-use Rattle.formula.proofs.Rows.{of-accepted, of-rejected}
+use Rattle.formula.proofs.Rows.{of-accepted, of-sloped, of-rejected}
 use Rattle.formula.proofs.Answers.{pairs-fit}
 use Rattle.buzzlumen.specs.Answers.{Small}
 
@@ -32,16 +33,22 @@ of-circuit circuit target pairsRoom formulaRoom few =
     go Passes e = let h = pairs-fit circuit target pairsRoom formulaRoom e in omega arith
 
 -- every answer of a building call
-pub small : (file arrivals : List ℕ) (target pairsRoom formulaRoom : ℕ) →
-    Small (building file arrivals target pairsRoom formulaRoom .answer)
-small file arrivals target pairsRoom formulaRoom = go (openCircuitOf file arrivals) refl
+pub small : (file arrivals : List ℕ) (slopes : Slopes) (target pairsRoom formulaRoom : ℕ) →
+    Small (building file arrivals slopes target pairsRoom formulaRoom .answer)
+small file arrivals slopes target pairsRoom formulaRoom = go (openCircuitOf file arrivals) refl
   where
-    go : (o : Opened) → openCircuitOf file arrivals ≡ o → Small
-        (building file arrivals target pairsRoom formulaRoom .answer)
-    go (Rejected refusal) e = rw (of-rejected file arrivals target pairsRoom formulaRoom refusal e) tt
-    go (Accepted shape) e =
+    sloped : (shape : Shape) → openCircuitOf file arrivals ≡ Accepted shape → (c : Checked) →
+        checked (slopeRows (shape .pins) slopes) ≡ c →
+        Small (building file arrivals slopes target pairsRoom formulaRoom .answer)
+    sloped shape e (Fails refusal) f = rw (of-sloped file arrivals slopes target pairsRoom formulaRoom shape e f) tt
+    sloped shape e Passes f =
         let h = accepted file arrivals e .holds in
         let n = node-count file shape in
-        rw (of-accepted file arrivals target pairsRoom formulaRoom shape e)
-        (of-circuit (circuitAt file shape arrivals) target pairsRoom formulaRoom
+        rw (of-accepted file arrivals slopes target pairsRoom formulaRoom shape e f)
+        (of-circuit (circuitWith file shape arrivals slopes) target pairsRoom formulaRoom
         (omega (arith, h .counts .inputs-few, h .counts .gates-few)))
+
+    go : (o : Opened) → openCircuitOf file arrivals ≡ o → Small
+        (building file arrivals slopes target pairsRoom formulaRoom .answer)
+    go (Rejected refusal) e = rw (of-rejected file arrivals slopes target pairsRoom formulaRoom refusal e) tt
+    go (Accepted shape) e = sloped shape e (checked (slopeRows (shape .pins) slopes)) refl

@@ -4,6 +4,7 @@ use mathlib.Core.Path.{_≡_, sym, ap, _∙_}
 use mathlib.Core.List.{List}
 use Prim.Native.Nat.{ℕ}
 use lib.IntN.{ℤ}
+use Rattle.netlist.specs.Netlist.{Slopes}
 use Rattle.settle.specs.Promise.{Evaluation}
 use Rattle.formula.specs.Promise.{Building}
 use Rattle.refute.specs.Promise.{Checks}
@@ -38,14 +39,14 @@ says-unique variables formula refutation room p q =
     ∙ sym (q .is)
 
 -- one answer of a certificate call, and one content of each slice
-module _ (file arrivals : List ℕ) (delay : ℕ) (vector : List ℕ) (refutation : List ℤ) (rooms : Rooms)
+module _ (file arrivals : List ℕ) (slopes : Slopes) (delay : ℕ) (vector : List ℕ) (refutation : List ℤ) (rooms : Rooms)
     {values times pairs : List ℕ} {formula : List ℤ} {propagation : List ℕ} {a : Answer}
     {values′ times′ pairs′ : List ℕ} {formula′ : List ℤ} {propagation′ : List ℕ} {b : Answer}
-    (p : Certifies file arrivals delay vector refutation rooms values times pairs formula propagation a)
-    (q : Certifies file arrivals delay vector refutation rooms values′ times′ pairs′ formula′ propagation′ b) where
+    (p : Certifies file arrivals slopes delay vector refutation rooms values times pairs formula propagation a)
+    (q : Certifies file arrivals slopes delay vector refutation rooms values′ times′ pairs′ formula′ propagation′ b) where
   one : leaving (p .answer) values times pairs formula propagation
       ≡ leaving (q .answer) values′ times′ pairs′ formula′ propagation′
-  one = judges-unique file arrivals delay vector refutation rooms _ _ (p .judges) (q .judges)
+  one = judges-unique file arrivals slopes delay vector refutation rooms _ _ (p .judges) (q .judges)
 
   pub certifies-unique :
       (a ≡ b)

@@ -9,6 +9,7 @@ use Rattle.settle.specs.declared.Settled.{Settled}
 use Rattle.settle.specs.declared.Settled.the-variants.{At, Refused as Unsettled}
 use Rattle.refusal.specs.declared.Checked.{Checked}
 use Rattle.refusal.specs.declared.Checked.the-variants.{Passes, Refused}
+use Rattle.netlist.specs.Netlist.{Slopes}
 use Rattle.netlist.specs.File.{circuitOf}
 use Rattle.settle.specs.Promise.{Evaluation}
 use Rattle.formula.specs.declared.Built.{Built}
@@ -69,10 +70,10 @@ Small (Unbuilt refusal) = Unit {0}
 
 -- the numbers of a certificate call's answer and what it leaves in the lent slices; number 0 means that the delay is
 -- the largest settling time
-pub record Certifies (file arrivals : List ℕ) (delay : ℕ) (vector : List ℕ) (refutation : List ℤ) (rooms : Rooms)
+pub record Certifies (file arrivals : List ℕ) (slopes : Slopes) (delay : ℕ) (vector : List ℕ) (refutation : List ℤ) (rooms : Rooms)
     (values times pairs : List ℕ) (formula : List ℤ) (propagation : List ℕ) (numbers : Answer) : Type 0 where
   pub answer : Checked
-  pub judges : Judges file arrivals delay vector refutation rooms
+  pub judges : Judges file arrivals slopes delay vector refutation rooms
       (leaving answer values times pairs formula propagation)
   pub is : numbers ≡ checkedOf answer
-  pub largest : numbers .number ≡ 0 → Largest (circuitOf file arrivals) delay
+  pub largest : numbers .number ≡ 0 → Largest (circuitOf file arrivals slopes) delay

@@ -10,7 +10,7 @@ use borrow.Author.Tests.{lt-ltb, le-ltb}
 use Rattle.refusal.specs.declared.Refusal.{Refusal}
 use Rattle.refusal.specs.declared.Refusal.the-variants.{Pairs, Room}
 use Rattle.refusal.specs.Rows.{checked}
-use Rattle.refusal.specs.declared.Checked.the-variants.{Passes}
+use Rattle.refusal.specs.declared.Checked.the-variants.{Passes, Refused as Fails}
 use Rattle.netlist.specs.declared.Shape.{Shape}
 use Rattle.netlist.specs.declared.Opened.the-variants.{Accepted, Refused as Rejected}
 use Rattle.netlist.specs.Netlist.{nodeCount, Circuit, Slopes}
@@ -18,7 +18,7 @@ use Rattle.netlist.specs.File.{netlistAt, circuitAt, circuitWith}
 use Rattle.netlist.specs.Open.{openCircuitOf, slopeRows}
 use Rattle.netlist.specs.Holds.{Given}
 use Rattle.netlist.proofs.Entries.{node-count}
-use Rattle.netlist.proofs.Calls.{call-accepted, call-rejected}
+use Rattle.netlist.proofs.Calls.{call-accepted, call-sloped, call-rejected}
 use Rattle.clauses.specs.Clauses.{flat}
 use Rattle.pairs.specs.declared.Listed.{Listed}
 use Rattle.pairs.specs.declared.Listed.the-variants.{Count, TooMany}
@@ -216,6 +216,15 @@ module _ (file arrivals : List ℕ) (slopes : Slopes) (target pairsRoom formulaR
   unfolding building buildingOf
   of-accepted shape e f =
       call-accepted file arrivals slopes (λ circuit. buildingRows circuit target pairsRoom formulaRoom)
+      (refused pairsRoom formulaRoom)
+      (λ circuit. built circuit target pairsRoom formulaRoom) e f
+
+  pub of-sloped : {refusal : Refusal} (shape : Shape) → openCircuitOf file arrivals ≡ Accepted shape →
+      checked (slopeRows (shape .pins) slopes) ≡ Fails refusal →
+      building file arrivals slopes target pairsRoom formulaRoom ≡ refused pairsRoom formulaRoom refusal
+  unfolding building
+  of-sloped shape e f =
+      call-sloped file arrivals slopes (λ circuit. buildingRows circuit target pairsRoom formulaRoom)
       (refused pairsRoom formulaRoom)
       (λ circuit. built circuit target pairsRoom formulaRoom) e f
 

@@ -11,7 +11,7 @@ build-requires : tie.Need-build-requires
 build-requires c κs = search needs
 
 numbers-of-built-requires : tie.Need-numbers-of-built-requires
-numbers-of-built-requires c κs = rw (c .before .before .before .build .ensures .answer-is) (small _ _ _ _ _)
+numbers-of-built-requires c κs = rw (c .before .before .before .build .ensures .answer-is) (small _ _ _ _ _ _)
 
 same-length : tie.Need-same-length
 same-length c = search needs
