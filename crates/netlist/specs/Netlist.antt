@@ -27,7 +27,7 @@ pub record Netlist : Type 0 where
   pub gates : List Cell
   pub outputs : List ℕ
 
--- whether a pin's delay depends on its gate's final value (rule S8): it does not; or a gate that ends at 0 has these
+-- whether a pin's delay depends on its gate's final value (rule R1): it does not; or a gate that ends at 0 has these
 -- delays, by the pins' numbers, and one that ends at 1 the file's own
 pub data Slopes : Type 0 where
   alike : Slopes

@@ -100,7 +100,7 @@ abbrev pub endsAt : Netlist → List Bool → Cell → Bool
 endsAt net vector g = gateValue (λ p. valueOf net vector (p .driver)) (g .kind) (g .pins)
 
 -- the settling times of all nodes; the inputs settle at their arrivals, and a gate goes by the delays for its own final
--- value (rule S8)
+-- value (rule R1)
 unfoldable pub timesOf : Circuit → List Bool → List ℕ
 timesOf circuit vector =
     grow 0
