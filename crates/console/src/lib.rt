@@ -6,7 +6,7 @@ use refusal::Refusal;
 ghost use mathlib.Core.Path.{_≡_};
 ghost use mathlib.Core.Bool.{false};
 ghost use mathlib.Core.List.{_++_};
-ghost use Prim.Native.Nat.{_-_, _*_, _/_, _≤_, min};
+ghost use Prim.Native.Nat.{_+_, _-_, _*_, _/_, _≤_, min};
 ghost use lib.ListN.{length, drop};
 ghost use Rattle.io.specs.Counts.{Counts};
 ghost use Rattle.console.specs.Reading.{numbersOf, unsignedOf, toldOf, wordOf, Came};
@@ -142,4 +142,18 @@ pub fn counted_of(list: &[u8], numbers: &mut [u32]) -> usize
     let count = least(there, numbers.len());
     unsigned_of(&list[4..], &mut numbers[..count]);
     count
+}
+
+// Where such a list ends: behind as many numbers as are told and are there.
+pub fn counted_end(list: &[u8]) -> usize
+    ensures { λ r. ⌜
+        (r ≡ min 4 (length (now (list .entry)))
+        + min (toldOf (now (list .entry))) ((length (now (list .entry)) - 4) / 4) * 4)
+        × (r ≤ length (now (list .entry)))
+        ⌝ }
+{
+    if list.len() < 4 {
+        return list.len();
+    }
+    4 + least(told_by(list), (list.len() - 4) / 4) * 4
 }
