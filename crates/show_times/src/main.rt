@@ -1,9 +1,10 @@
 // Prints values and settling times of a circuit under a vector. Standard input is three lists, each behind its length
 // (4 bytes, little endian): the vector, one byte an input; the netlist; the arrivals, 4 bytes an input, their length in
-// numbers. A list that is cut short is read as far as it goes, and what stands behind the last counts for nothing.
+// numbers. Where 4 bytes more follow, they are the length of a fourth: the delays of gates that end at 0, 4 bytes a pin.
+// A list that is cut short is read as far as it goes, and what stands behind the last counts for nothing.
 // Prints `settled T`, then a line `node value time` for each node; or `refused number place`. An input of fewer than 4
 // bytes is `refused 1` and its length. Its room: an input of 65,536 bytes (a longer one: `refused 9 65537`). What
-// matters is settle::evaluate's contract. Assumes nothing of its own.
+// matters is the contract of settle::evaluate and settle::evaluate_rise_fall. Assumes nothing of its own.
 use netlist::Opened;
 use refusal::Refusal;
 use settle::Settled;
@@ -37,9 +38,9 @@ fn print_nodes(count: usize, values: &[u8], times: &[u32]) {
     }
 }
 
-// The answer for a netlist, its arrivals and a vector.
-fn show(file: &[u8], arrivals: &[u32], vector: &[u8], values: &mut [u8], times: &mut [u32]) {
-    match settle::evaluate(file, arrivals, vector, values, times) {
+// The answer for a netlist, and what it left in the slices.
+fn show(answer: Settled, file: &[u8], values: &[u8], times: &[u32]) {
+    match answer {
         Settled::At(time) => {
             console::print(b"settled");
             console::print_number(lent::widen(time));
@@ -50,16 +51,38 @@ fn show(file: &[u8], arrivals: &[u32], vector: &[u8], values: &mut [u8], times: 
     }
 }
 
+// What stands behind the arrivals: nothing, or the delays of gates that end at 0, of which the 2,049th is one too many
+// for any netlist.
+fn with_arrivals(rest: &[u8], file: &[u8], arrivals: &[u32], vector: &[u8]) {
+    let mut values = [0u8; 512];
+    let mut times = [0u32; 512];
+    if rest.len() < 4 {
+        let answer = settle::evaluate(file, arrivals, vector, &mut values, &mut times);
+        show(answer, file, &values, &times);
+        return;
+    }
+    let mut falls = [0u32; 2049];
+    let count = console::counted_of(rest, &mut falls);
+    let answer = settle::evaluate_rise_fall(
+        file,
+        arrivals,
+        &falls[..count],
+        vector,
+        &mut values,
+        &mut times,
+    );
+    show(answer, file, &values, &times);
+}
+
 // The arrivals read, of which the 65th is one too many for any netlist.
 fn with_netlist(rest: &[u8], file: &[u8], vector: &[u8]) {
     let mut arrivals = [0u32; 65];
     let count = console::counted_of(rest, &mut arrivals);
-    let mut values = [0u8; 512];
-    let mut times = [0u32; 512];
-    show(file, &arrivals[..count], vector, &mut values, &mut times);
+    let end = console::counted_end(rest);
+    with_arrivals(&rest[end..], file, &arrivals[..count], vector);
 }
 
-// What stands behind the vector: the netlist, then the arrivals.
+// What stands behind the vector: the netlist, then the rest.
 fn with_vector(rest: &[u8], vector: &[u8]) {
     let start = console::least(4, rest.len());
     let end = start + console::least(console::told_by(rest), rest.len() - start);
