@@ -1,7 +1,7 @@
 -- A gate's pins with the delays for its final value, and with the larger ones: the same drivers, as many of them, delays
--- that are small, and none above the larger. Laws: pins-for-length, pins-for-only, pins-for-slowest, slowest-only.
--- Assumes nothing.
-use mathlib.Core.Path.{_≡_, refl, sym, ap, _∙_}
+-- that are small; and the pins themselves where the list has their own delays. Laws: pins-for-length, pins-for-only,
+-- slowest-only, pins-for-equal, slowest-equal. Assumes nothing.
+use mathlib.Core.Path.{_≡_, refl, sym, ap, ap₂, _∙_}
 use mathlib.Core.Bool.{Bool, true, false}
 use mathlib.Core.List.{List, [], _∷_, map, List·Memᴰ, List·Memᴰ·head, List·Memᴰ·tail}
 use Prim.Native.Nat.{ℕ, suc, _≤_, max}
@@ -16,6 +16,14 @@ module _ (delay : Pin → ℕ) where
   delayed-length : (ps : List Pin) → length (map (delayed delay) ps) ≡ length ps
   delayed-length [] = refl
   delayed-length (p ∷ ps) = ap suc (delayed-length ps)
+
+  -- where each keeps its own, they are the same pins
+  delayed-same : (ps : List Pin) → ((p : Pin) → List·Memᴰ p ps → delay p ≡ p .delay) → map (delayed delay) ps ≡ ps
+  delayed-same [] same = refl
+  delayed-same (p ∷ ps) same =
+      ap₂ (λ (d : ℕ) (qs : List Pin). record { driver = p .driver; delay = d; number = p .number } ∷ qs)
+      (same p (List·Memᴰ·head refl))
+      (delayed-same ps (λ q m. same q (List·Memᴰ·tail m)))
 
 -- as many pins
 pub pins-for-length : (slopes : Slopes) (v : Bool) (ps : List Pin) → length (pinsFor slopes v ps) ≡ length ps
@@ -48,3 +56,16 @@ slowest-only (apart falls) small ps q m =
       ap (λ (x : Pin). x .driver) (w .2),
       omega (arith, ap (λ (x : Pin). x .delay) (w .2), small (w .0 .number)),
     )
+
+-- ---- a list that has each pin's own delay
+
+module _ (falls : List ℕ) (ps : List Pin) (same : (p : Pin) → List·Memᴰ p ps → fallOf falls p ≡ p .delay) where
+  -- gives the pins themselves, whatever the gate's final value
+  pub pins-for-equal : (v : Bool) → pinsFor (apart falls) v ps ≡ ps
+  pins-for-equal true = refl
+  pins-for-equal false = delayed-same (fallOf falls) ps same
+
+  -- and the larger delays are theirs
+  pub slowest-equal : slowest (apart falls) ps ≡ ps
+  slowest-equal =
+      delayed-same (λ p. max (p .delay) (fallOf falls p)) ps (λ p m. let e = same p m in omega arith)

@@ -17,7 +17,8 @@ use native.Mathlib.Omega.{arith}
 use native.Mathlib.Decide.{decLt, ℕ-discrete}
 use lib.ListN.{length, getD}
 use Rattle.netlist.specs.declared.Shape.{Shape}
-use Rattle.netlist.specs.File.{netlistAt, outputAt}
+use Rattle.netlist.specs.Netlist.{Slopes, alike, apart}
+use Rattle.netlist.specs.File.{netlistAt, outputAt, delayAt}
 use Rattle.netlist.proofs.Entries.{output-has, output-only}
 use Rattle.pairs.specs.Table.{
   pairAt,
@@ -27,6 +28,8 @@ use Rattle.pairs.specs.Table.{
   Adds,
   Within,
   PinAsks,
+  askers,
+  LinkAsks,
   OutputAsks,
   Asks,
   byOutput,
@@ -160,63 +163,98 @@ module _ {l : List (ℕ × ℕ)} {n delay top : ℕ} where
           go (no h) =
               absurd (omega (arith, u .few, ap keyOf (i .2), p .after (i .0) (omega arith) (i .1)))
 
+-- ---- a pin, by the rails of its gate
+
+module _ {l : List (ℕ × ℕ)} {top : ℕ} where
+  -- by no rail, or by one rail before those that asked already
+  pub links-none : (marks : List ℕ) → Adds marks (Within top (LinkAsks l [])) marks
+  links-none marks = adds-none (Within top (LinkAsks l [])) (λ t u. List·Memᴰ·not-nil (u .has .own))
+
+  pub links-more : {a b c : List ℕ} {by : List (ℕ × ℕ)} (x : ℕ × ℕ) → Adds a (Within top (PinAsks l (x .0) (x .1))) b →
+      Adds b (Within top (LinkAsks l by)) c → Adds a (Within top (LinkAsks l (x ∷ by))) c
+  links-more {by = by} x v w =
+      adds-then (Within top (LinkAsks l (x ∷ by))) v w
+      (λ t u.
+      within-as (LinkAsks l (x ∷ by)) t (λ y. record { rail = x; own = List·Memᴰ·head refl; asks = y }) u)
+      (λ t u.
+      within-as (LinkAsks l (x ∷ by)) t
+      (λ y. record { rail = y .rail; own = List·Memᴰ·tail (y .own); asks = y .asks }) u)
+      (λ t u. pick t u (List·Memᴰ·cases-cons (u .has .own)))
+    where
+      pick : (t : ℕ) (u : Within top (LinkAsks l (x ∷ by)) t) → (u .has .rail ≡ x) ⊎ List·Memᴰ (u .has .rail) by →
+          Within top (PinAsks l (x .0) (x .1)) t ⊎ Within top (LinkAsks l by) t
+      pick t u (inl e) =
+          inl
+          (record {
+            some = u .some;
+            few = u .few;
+            has = subst (λ (y : ℕ × ℕ). PinAsks l (y .0) (y .1) t) e (u .has .asks);
+          })
+      pick t u (inr m) =
+          inr
+          (record {
+            some = u .some;
+            few = u .few;
+            has = record { rail = u .has .rail; own = m; asks = u .has .asks };
+          })
+
 -- ---- the outputs, and then the pins that f drives
 
 -- the same by other pins
-asks-as : {l : List (ℕ × ℕ)} {file : List ℕ} {shape : Shape} {target f : ℕ} {X : ℕ × ℕ → Type 0}
-    (Y : ℕ × ℕ → Type 0) (t : ℕ) → ((x : ℕ × ℕ) → X x → Y x) → Asks X l file shape target f t →
-    Asks Y l file shape target f t
+asks-as : {l : List (ℕ × ℕ)} {file : List ℕ} {shape : Shape} {slopes : Slopes} {target f : ℕ} {X : ℕ × ℕ → Type 0}
+    (Y : ℕ × ℕ → Type 0) (t : ℕ) → ((x : ℕ × ℕ) → X x → Y x) → Asks X l file shape slopes target f t →
+    Asks Y l file shape slopes target f t
 asks-as Y t h (byOutput y) = byOutput y
 asks-as Y t h (byPin x p y) = byPin x (h x p) y
 
-module _ {l : List (ℕ × ℕ)} {file : List ℕ} {shape : Shape} {target f top : ℕ} where
+module _ {l : List (ℕ × ℕ)} {file : List ℕ} {shape : Shape} {slopes : Slopes} {target f top : ℕ} where
   pub asks-same : {a b : List ℕ} {X : ℕ × ℕ → Type 0} (Y : ℕ × ℕ → Type 0) → ((x : ℕ × ℕ) → X x → Y x) →
-      ((x : ℕ × ℕ) → Y x → X x) → Adds a (Within top (Asks X l file shape target f)) b →
-      Adds a (Within top (Asks Y l file shape target f)) b
+      ((x : ℕ × ℕ) → Y x → X x) → Adds a (Within top (Asks X l file shape slopes target f)) b →
+      Adds a (Within top (Asks Y l file shape slopes target f)) b
   asks-same {X = X} Y g h w =
-      adds-same (Within top (Asks Y l file shape target f))
-      (λ t u. within-as (Asks Y l file shape target f) t (asks-as Y t g) u)
-      (λ t u. within-as (Asks X l file shape target f) t (asks-as X t h) u) w
+      adds-same (Within top (Asks Y l file shape slopes target f))
+      (λ t u. within-as (Asks Y l file shape slopes target f) t (asks-as Y t g) u)
+      (λ t u. within-as (Asks X l file shape slopes target f) t (asks-as X t h) u) w
 
   -- no pin
   pub asks-starts : {a b : List ℕ} → Adds a (Within top (OutputAsks file shape target f)) b →
-      Adds a (Within top (Asks (In []) l file shape target f)) b
+      Adds a (Within top (Asks (In []) l file shape slopes target f)) b
   asks-starts w =
-      adds-same (Within top (Asks (In []) l file shape target f))
-      (λ t u. within-as (Asks (In []) l file shape target f) t (λ v. byOutput v) u)
+      adds-same (Within top (Asks (In []) l file shape slopes target f))
+      (λ t u. within-as (Asks (In []) l file shape slopes target f) t (λ v. byOutput v) u)
       (λ t u. within-as (OutputAsks file shape target f) t (λ v. pick t v) u) w
     where
-      pick : (t : ℕ) → Asks (In []) l file shape target f t → OutputAsks file shape target f t
+      pick : (t : ℕ) → Asks (In []) l file shape slopes target f t → OutputAsks file shape target f t
       pick t (byOutput v) = v
       pick t (byPin x m v) = absurd (List·Memᴰ·not-nil m)
 
   -- one pin more
   pub asks-more : {a b c : List ℕ} {pins : List (ℕ × ℕ)} (x : ℕ × ℕ) →
-      Adds a (Within top (Asks (In pins) l file shape target f)) b →
-      Adds b (Within top (PinAsks l (shape .inputs + x .0) (x .1))) c →
-      Adds a (Within top (Asks (In (x ∷ pins)) l file shape target f)) c
+      Adds a (Within top (Asks (In pins) l file shape slopes target f)) b →
+      Adds b (Within top (LinkAsks l (askers file shape slopes x))) c →
+      Adds a (Within top (Asks (In (x ∷ pins)) l file shape slopes target f)) c
   asks-more {pins = pins} x v w =
-      adds-then (Within top (Asks (In (x ∷ pins)) l file shape target f)) v w
+      adds-then (Within top (Asks (In (x ∷ pins)) l file shape slopes target f)) v w
       (λ t u.
-      within-as (Asks (In (x ∷ pins)) l file shape target f) t (asks-as (In (x ∷ pins)) t (λ y m. List·Memᴰ·tail m)) u)
-      (λ t u. within-as (Asks (In (x ∷ pins)) l file shape target f) t (λ y. byPin x (List·Memᴰ·head refl) y) u)
+      within-as (Asks (In (x ∷ pins)) l file shape slopes target f) t (asks-as (In (x ∷ pins)) t (λ y m. List·Memᴰ·tail m)) u)
+      (λ t u. within-as (Asks (In (x ∷ pins)) l file shape slopes target f) t (λ y. byPin x (List·Memᴰ·head refl) y) u)
       (λ t u. pick t u (u .has))
     where
-      pick : (t : ℕ) → Within top (Asks (In (x ∷ pins)) l file shape target f) t →
-          Asks (In (x ∷ pins)) l file shape target f t →
-          Within top (Asks (In pins) l file shape target f) t
-          ⊎ Within top (PinAsks l (shape .inputs + x .0) (x .1)) t
+      pick : (t : ℕ) → Within top (Asks (In (x ∷ pins)) l file shape slopes target f) t →
+          Asks (In (x ∷ pins)) l file shape slopes target f t →
+          Within top (Asks (In pins) l file shape slopes target f) t
+          ⊎ Within top (LinkAsks l (askers file shape slopes x)) t
       pick t u (byOutput y) = inl (record { some = u .some; few = u .few; has = byOutput y })
       pick t u (byPin z m y) = go (List·Memᴰ·cases-cons m)
         where
           go : (z ≡ x) ⊎ List·Memᴰ z pins →
-              Within top (Asks (In pins) l file shape target f) t
-              ⊎ Within top (PinAsks l (shape .inputs + x .0) (x .1)) t
+              Within top (Asks (In pins) l file shape slopes target f) t
+              ⊎ Within top (LinkAsks l (askers file shape slopes x)) t
           go (inl e) =
               inr
               (record {
                 some = u .some;
                 few = u .few;
-                has = subst (λ (p : ℕ × ℕ). PinAsks l (shape .inputs + p .0) (p .1) t) e y;
+                has = subst (λ (p : ℕ × ℕ). LinkAsks l (askers file shape slopes p) t) e y;
               })
           go (inr i) = inl (record { some = u .some; few = u .few; has = byPin z i y })

@@ -1,60 +1,52 @@
--- What the formula needs of the pairs: they hold what the outputs ask for, are closed under the drivers, and each has
--- its own place in the list. Laws: closed, time-listed, place-below, place-at; for a valid netlist: closed-for,
--- listed-for, placed-for, place-for, pair-for, time-for, output-for, driver-for. Assumes nothing.
-use mathlib.Core.Path.{_≡_, refl, sym, ap₂}
+-- What the formula needs of the pairs of a circuit whose netlist is valid: they hold what the outputs ask for, are closed
+-- under the drivers, and each has its own place in the list. Laws: place-below, place-at; closed-for, listed-for,
+-- placed-for, place-for, pair-for, time-for, output-for, driver-for. Assumes nothing.
+use mathlib.Core.Path.{_≡_, refl, sym, ap₂, subst}
 use mathlib.Core.Bool.{Bool, true, false, _&&_, cond}
 use mathlib.Core.List.{List, _∷_, List·Memᴰ, List·Memᴰ·head, List·Memᴰ·tail}
 use Prim.Native.Nat.{ℕ, suc, _+_, _-_, _≤_, _<_}
 use native.Mathlib.Omega.{arith}
 use lib.Dec.{T, eqb, eqb→eq, eqb-refl}
 use lib.ListN.{length, getD}
-use Rattle.basics.specs.Lists.{all, numbered}
+use Rattle.basics.specs.Lists.{numbered}
 use Rattle.basics.proofs.Truth.{and-left, and-right, and-both, holds}
-use Rattle.netlist.specs.Netlist.{Cell, Pin, nodes, nodeCount, gateFits, valid, Circuit}
-use Rattle.netlist.proofs.Valid.{valid-gates, valid-outputs}
+use Rattle.netlist.specs.Netlist.{Cell, Pin, Slopes, nodes, nodeCount, valid, Circuit}
+use Rattle.netlist.proofs.Valid.{valid-outputs}
 use Rattle.settle.specs.Settling.{topOf}
-use Rattle.pairs.specs.Pairs.{output, driver, timesAt, pairList, pairsFor, pairPlace}
-use Rattle.pairs.proofs.Least.{least-set, is-pair, pair-facts, asked-is-pair, member-is-pair, asked-below}
+use Rattle.pairs.specs.Rails.{railsOf, railCount, nodeOf, Rail, railsAt, railCells, railOutputs}
+use Rattle.pairs.specs.Pairs.{isPair, output, driver, railTop, timesFor, pairsFor, pairPlace}
+use Rattle.pairs.proofs.Least.{
+  Down,
+  least-set,
+  is-pair,
+  pair-facts,
+  asked-is-pair,
+  member-is-pair,
+  asked-below,
+}
 use Rattle.pairs.proofs.Unique.{time-asked, asked-time, pairs-asked, asked-pairs}
+use Rattle.pairs.proofs.Rails.{
+  rail-node,
+  from-node,
+  below-node,
+  asking-has,
+  rail-has,
+  rail-total,
+  outputs-has,
+  outputs-only,
+  down-for,
+}
 
--- the times of the pairs hold what the outputs ask for, and what each pin of a pair's gate asks for
-pub record Closed (I : ℕ) (gates : List (ℕ × Cell)) (top : ℕ → ℕ) (times : ℕ → List ℕ) (outputs : List ℕ)
-    (target : ℕ) : Type 0 where
-  pub positive : (f t : ℕ) → List·Memᴰ t (times f) → 0 < t
-  pub outputs-in : (o : ℕ) → List·Memᴰ o outputs → I ≤ o → 0 < target → target ≤ top o → List·Memᴰ target (times o)
-  pub drivers-in : (f : ℕ) (g : Cell) → List·Memᴰ (f, g) gates → (t : ℕ) → List·Memᴰ t (times f) →
-      (p : Pin) → List·Memᴰ p (g .pins) → I ≤ p .driver → 0 < t - p .delay → t - p .delay ≤ top (p .driver) →
-      List·Memᴰ (t - p .delay) (times (p .driver))
-
-module _ (I : ℕ) (top : ℕ → ℕ) (outputs : List ℕ) (target : ℕ) (gates : List Cell)
-    (fits : T (all gateFits (numbered I gates))) where
-  pub closed : Closed I (numbered I gates) top (timesAt I top outputs target gates) outputs target
-  closed =
-      record {
-        positive =
-            λ f t m.
-            pair-facts I top outputs target f t
-            (asked-is-pair I top outputs target I gates f t (time-asked I top outputs target gates fits f t m)) .1;
-        outputs-in =
-            λ o m a b c.
-            asked-time I top outputs target gates fits o target
-            (least-set I top outputs target gates fits o target .1
-            (output m (is-pair I top outputs target o target a b c)));
-        drivers-in =
-            λ f g m t i p j a b c.
-            asked-time I top outputs target gates fits (p .driver) (t - p .delay)
-            (least-set I top outputs target gates fits (p .driver) (t - p .delay) .1
-            (driver m j
-            (least-set I top outputs target gates fits f t .0 (time-asked I top outputs target gates fits f t i))
-            (is-pair I top outputs target (p .driver) (t - p .delay) a b c)));
-      }
-
-  -- each node's times are in the list of the pairs
-  pub time-listed : ((o : ℕ) → List·Memᴰ o outputs → o < I + length gates) → (f t : ℕ) →
-      List·Memᴰ t (timesAt I top outputs target gates f) → List·Memᴰ (f, t) (pairList I top outputs target gates)
-  time-listed high f t m =
-      asked-pairs I top outputs target gates fits high f t
-      (least-set I top outputs target gates fits f t .0 (time-asked I top outputs target gates fits f t m))
+-- the times of the rails' pairs hold what the outputs ask for, and what each pin of a pair's gate asks for
+pub record Closed (slopes : Slopes) (I : ℕ) (gates : List (ℕ × Cell)) (top : ℕ → ℕ) (times : ℕ → List ℕ)
+    (outputs : List ℕ) (target : ℕ) : Type 0 where
+  pub positive : (rail t : ℕ) → List·Memᴰ t (times rail) → 0 < t
+  pub outputs-in : (o : ℕ) → List·Memᴰ o outputs → I ≤ o → 0 < target → target ≤ top o →
+      (rail : ℕ) → List·Memᴰ rail (railsOf slopes o) → List·Memᴰ target (times rail)
+  pub drivers-in : (x : ℕ × Cell) → List·Memᴰ x gates → (r : Rail) → List·Memᴰ r (railsAt slopes x) →
+      (t : ℕ) → List·Memᴰ t (times (r .number)) → (p : Pin) → List·Memᴰ p (r .pins) → I ≤ p .driver →
+      0 < t - p .delay → t - p .delay ≤ top (p .driver) →
+      (rail : ℕ) → List·Memᴰ rail (railsOf slopes (p .driver)) → List·Memᴰ (t - p .delay) (times rail)
 
 -- ---- a pair's place
 
@@ -100,83 +92,128 @@ place-at f t (x ∷ l) d (List·Memᴰ·tail m) = go (eqb (x .0) f && eqb (x .1)
 -- ---- the pairs of a circuit whose netlist is valid
 
 module _ (circuit : Circuit) (ok : T (valid (circuit .net))) (target : ℕ) where
-  pub closed-for : Closed (circuit .net .inputs) (nodes (circuit .net)) (topOf circuit)
-      (timesAt (circuit .net .inputs) (topOf circuit) (circuit .net .outputs) target (circuit .net .gates))
-      (circuit .net .outputs) target
-  closed-for =
-      closed (circuit .net .inputs) (topOf circuit) (circuit .net .outputs) target (circuit .net .gates)
-      (valid-gates (circuit .net) ok)
+  abbrev inputRails : ℕ
+  inputRails = railCount (circuit .slopes) (circuit .net .inputs)
 
-  -- each node's times are in the list of the pairs
-  pub listed-for : (f t : ℕ) →
-      List·Memᴰ t
-      (timesAt (circuit .net .inputs) (topOf circuit) (circuit .net .outputs) target (circuit .net .gates) f) →
-      List·Memᴰ (f, t) (pairsFor circuit target)
+  abbrev top : ℕ → ℕ
+  top = railTop circuit
+
+  abbrev outputRails : List ℕ
+  outputRails = railOutputs (circuit .slopes) (circuit .net .outputs)
+
+  abbrev cells : List Cell
+  cells = railCells (circuit .slopes) (circuit .net .gates)
+
+  down : Down inputRails cells
+  down = down-for circuit ok
+
+  -- a rail of a gate's node, from 1 to the node's top, is a pair
+  rail-pair : (node t : ℕ) → circuit .net .inputs ≤ node → 0 < t → t ≤ topOf circuit node →
+      (rail : ℕ) → List·Memᴰ rail (railsOf (circuit .slopes) node) → T (isPair inputRails top rail t)
+  rail-pair node t a b c rail i =
+      let e = rail-node (circuit .slopes) node rail i in
+      is-pair inputRails top rail t
+      (from-node (circuit .slopes) (circuit .net .inputs) rail
+      (subst (λ (n : ℕ). circuit .net .inputs ≤ n) (sym e) a))
+      b
+      (subst (λ (n : ℕ). t ≤ topOf circuit n) (sym e) c)
+
+  pub closed-for : Closed (circuit .slopes) (circuit .net .inputs) (nodes (circuit .net)) (topOf circuit)
+      (timesFor circuit target) (circuit .net .outputs) target
+  closed-for =
+      record {
+        positive =
+            λ rail t m.
+            pair-facts inputRails top rail t
+            (asked-is-pair inputRails top outputRails target inputRails cells rail t
+            (time-asked inputRails top outputRails target cells down rail t m)) .1;
+        outputs-in =
+            λ o m a b c rail i.
+            asked-time inputRails top outputRails target cells down rail target
+            (least-set inputRails top outputRails target cells down rail target .1
+            (output (outputs-has (circuit .slopes) (circuit .net .outputs) o m rail i)
+            (rail-pair o target a b c rail i)));
+        drivers-in =
+            λ x m r j t i p k a b c rail l.
+            asked-time inputRails top outputRails target cells down rail (t - p .delay)
+            (least-set inputRails top outputRails target cells down rail (t - p .delay) .1
+            (driver (rail-has (circuit .slopes) (circuit .net .inputs) (circuit .net .gates) x m r j)
+            (asking-has (circuit .slopes) (r .pins) p k rail l)
+            (least-set inputRails top outputRails target cells down (r .number) t .0
+            (time-asked inputRails top outputRails target cells down (r .number) t i))
+            (rail-pair (p .driver) (t - p .delay) a b c rail l)));
+      }
+
+  -- the outputs' rails are rails of the netlist
+  outputs-high : (rail : ℕ) → List·Memᴰ rail outputRails → rail < inputRails + length cells
+  outputs-high rail m =
+      let h =
+      below-node (circuit .slopes) (nodeCount (circuit .net)) rail
+      (valid-outputs (circuit .net) ok (nodeOf (circuit .slopes) rail)
+      (outputs-only (circuit .slopes) (circuit .net .outputs) rail m))
+      in
+      subst (λ (n : ℕ). rail < n) (sym (rail-total (circuit .slopes) (circuit .net .inputs) (circuit .net .gates))) h
+
+  -- each rail's times are in the list of the pairs
+  pub listed-for : (rail t : ℕ) → List·Memᴰ t (timesFor circuit target rail) →
+      List·Memᴰ (rail, t) (pairsFor circuit target)
   unfolding pairsFor
-  listed-for f t m =
-      time-listed (circuit .net .inputs) (topOf circuit) (circuit .net .outputs) target (circuit .net .gates)
-      (valid-gates (circuit .net) ok)
-      (valid-outputs (circuit .net) ok) f t m
+  listed-for rail t m =
+      asked-pairs inputRails top outputRails target cells down outputs-high rail t
+      (least-set inputRails top outputRails target cells down rail t .0
+      (time-asked inputRails top outputRails target cells down rail t m))
 
   -- at a place below the length
-  pub placed-for : (f t : ℕ) →
-      List·Memᴰ t
-      (timesAt (circuit .net .inputs) (topOf circuit) (circuit .net .outputs) target (circuit .net .gates) f) →
-      pairPlace f t (pairsFor circuit target) < length (pairsFor circuit target)
-  placed-for f t m = place-below f t (pairsFor circuit target) (listed-for f t m)
+  pub placed-for : (rail t : ℕ) → List·Memᴰ t (timesFor circuit target rail) →
+      pairPlace rail t (pairsFor circuit target) < length (pairsFor circuit target)
+  placed-for rail t m = place-below rail t (pairsFor circuit target) (listed-for rail t m)
 
   -- that is its own
-  pub place-for : (f t : ℕ) →
-      List·Memᴰ t
-      (timesAt (circuit .net .inputs) (topOf circuit) (circuit .net .outputs) target (circuit .net .gates) f) →
-      getD (pairsFor circuit target) (pairPlace f t (pairsFor circuit target)) (0, 0) ≡ (f, t)
-  place-for f t m = place-at f t (pairsFor circuit target) (0, 0) (listed-for f t m)
+  pub place-for : (rail t : ℕ) → List·Memᴰ t (timesFor circuit target rail) →
+      getD (pairsFor circuit target) (pairPlace rail t (pairsFor circuit target)) (0, 0) ≡ (rail, t)
+  place-for rail t m = place-at rail t (pairsFor circuit target) (0, 0) (listed-for rail t m)
 
-  -- a pair of the list: its node is a gate's, its time is 1 to the node's top
-  pub pair-for : (f t : ℕ) → List·Memᴰ (f, t) (pairsFor circuit target) →
-      (circuit .net .inputs ≤ f) × (f < nodeCount (circuit .net)) × (0 < t) × (t ≤ topOf circuit f)
+  -- a pair of the list: its rail is a gate's, its time is 1 to the rail's top
+  pub pair-for : (rail t : ℕ) → List·Memᴰ (rail, t) (pairsFor circuit target) →
+      (railCount (circuit .slopes) (circuit .net .inputs) ≤ rail)
+      × (rail < railCount (circuit .slopes) (nodeCount (circuit .net))) × (0 < t) × (t ≤ railTop circuit rail)
   unfolding pairsFor
-  pair-for f t m =
-      let a =
-      pairs-asked (circuit .net .inputs) (topOf circuit) (circuit .net .outputs) target (circuit .net .gates)
-      (valid-gates (circuit .net) ok) (f, t) m
-      in
+  pair-for rail t m =
+      let a = pairs-asked inputRails top outputRails target cells down (rail, t) m in
       let w =
-      pair-facts (circuit .net .inputs) (topOf circuit) (circuit .net .outputs) target f t
-      (member-is-pair (circuit .net .inputs) (topOf circuit) (circuit .net .outputs) target (nodes (circuit .net)) f t
-      a)
+      pair-facts inputRails top rail t
+      (member-is-pair inputRails top outputRails target (numbered inputRails cells) rail t a)
       in (
         w .0,
-        asked-below (circuit .net .inputs) (topOf circuit) (circuit .net .outputs) target (circuit .net .gates)
-            (valid-gates (circuit .net) ok)
-            (valid-outputs (circuit .net) ok) f t a,
+        subst (λ (n : ℕ). rail < n) (rail-total (circuit .slopes) (circuit .net .inputs) (circuit .net .gates))
+            (asked-below inputRails top outputRails target cells down outputs-high rail t a),
         w .1,
         w .2,
       )
 
-  -- and back: a pair of the list is one of its node's times
-  pub time-for : (f t : ℕ) → List·Memᴰ (f, t) (pairsFor circuit target) →
-      List·Memᴰ t
-      (timesAt (circuit .net .inputs) (topOf circuit) (circuit .net .outputs) target (circuit .net .gates) f)
+  -- and back: a pair of the list is one of its rail's times
+  pub time-for : (rail t : ℕ) → List·Memᴰ (rail, t) (pairsFor circuit target) →
+      List·Memᴰ t (timesFor circuit target rail)
   unfolding pairsFor
-  time-for f t m =
-      asked-time (circuit .net .inputs) (topOf circuit) (circuit .net .outputs) target (circuit .net .gates)
-      (valid-gates (circuit .net) ok) f t
-      (least-set (circuit .net .inputs) (topOf circuit) (circuit .net .outputs) target (circuit .net .gates)
-      (valid-gates (circuit .net) ok) f t .1
-      (pairs-asked (circuit .net .inputs) (topOf circuit) (circuit .net .outputs) target (circuit .net .gates)
-      (valid-gates (circuit .net) ok) (f, t) m))
+  time-for rail t m =
+      asked-time inputRails top outputRails target cells down rail t
+      (least-set inputRails top outputRails target cells down rail t .1
+      (pairs-asked inputRails top outputRails target cells down (rail, t) m))
 
-  -- an output's pair at the target is in the list
+  -- each rail of an output is in the list at the target
   pub output-for : (o : ℕ) → List·Memᴰ o (circuit .net .outputs) → circuit .net .inputs ≤ o → 0 < target →
-      target ≤ topOf circuit o → List·Memᴰ (o, target) (pairsFor circuit target)
-  output-for o m a b c = listed-for o target (closed-for .outputs-in o m a b c)
+      target ≤ topOf circuit o → (rail : ℕ) → List·Memᴰ rail (railsOf (circuit .slopes) o) →
+      List·Memᴰ (rail, target) (pairsFor circuit target)
+  output-for o m a b c rail i = listed-for rail target (closed-for .outputs-in o m a b c rail i)
 
-  -- and, with a pair, the pair of each driver of its gate
-  pub driver-for : (f : ℕ) (g : Cell) → List·Memᴰ (f, g) (nodes (circuit .net)) → (t : ℕ) →
-      List·Memᴰ (f, t) (pairsFor circuit target) → (p : Pin) → List·Memᴰ p (g .pins) → circuit .net .inputs ≤ p
-      .driver →
+  -- and, with a pair, the pair of each rail of each driver of its gate
+  pub driver-for : (x : ℕ × Cell) → List·Memᴰ x (nodes (circuit .net)) →
+      (r : Rail) → List·Memᴰ r (railsAt (circuit .slopes) x) →
+      (t : ℕ) → List·Memᴰ (r .number, t) (pairsFor circuit target) →
+      (p : Pin) → List·Memᴰ p (r .pins) → circuit .net .inputs ≤ p .driver →
       0 < t - p .delay → t - p .delay ≤ topOf circuit (p .driver) →
-      List·Memᴰ (p .driver, t - p .delay) (pairsFor circuit target)
-  driver-for f g m t i p j a b c =
-      listed-for (p .driver) (t - p .delay) (closed-for .drivers-in f g m t (time-for f t i) p j a b c)
+      (rail : ℕ) → List·Memᴰ rail (railsOf (circuit .slopes) (p .driver)) →
+      List·Memᴰ (rail, t - p .delay) (pairsFor circuit target)
+  driver-for x m r j t i p k a b c rail l =
+      listed-for rail (t - p .delay)
+      (closed-for .drivers-in x m r j t (time-for (r .number) t i) p k a b c rail l)

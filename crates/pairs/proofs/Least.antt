@@ -9,27 +9,27 @@ use Prim.Native.Nat.{ℕ, suc, _+_, _-_, _≤_, _<_}
 use native.Mathlib.Omega.{arith}
 use lib.Dec.{T, leb, ltb, eqb, eqb→eq, eqb-refl, not-T, leb→le, le→leb, ltb→lt, lt→ltb, nltb→le}
 use lib.ListN.{length}
-use Rattle.basics.specs.Lists.{any, all, numbered}
+use Rattle.basics.specs.Lists.{any, numbered}
 use Rattle.basics.proofs.Truth.{and-left, and-right, and-both, or-left, or-right, or-cases}
-use Rattle.basics.proofs.Lists.{any-at, any-of, all-at}
-use Rattle.netlist.specs.Netlist.{Cell, Pin, gateFits}
-use Rattle.netlist.proofs.Valid.{fits-below}
+use Rattle.basics.proofs.Lists.{any-at, any-of}
+use Rattle.netlist.specs.Netlist.{Cell, Pin}
 use Rattle.pairs.specs.Pairs.{isPair, Asked, output, driver, asked}
 use Rattle.pairs.proofs.Numbered.{numbered-from, numbered-below}
 
-module _ (I : ℕ) (top : ℕ → ℕ) (outputs : List ℕ) (target : ℕ) where
-  -- ---- what a pair is
+-- what drives a cell lies below it
+abbrev pub Down : ℕ → List Cell → Type 0
+Down k cells = (x : ℕ × Cell) → List·Memᴰ x (numbered k cells) → (p : Pin) → List·Memᴰ p (x .1 .pins) → p .driver < x .0
 
-  abbrev Is : ℕ → ℕ → Bool
-  Is = isPair I top outputs target
+-- ---- what a pair is
 
-  pub is-pair : (f t : ℕ) → I ≤ f → 0 < t → t ≤ top f → T (isPair I top outputs target f t)
+module _ (I : ℕ) (top : ℕ → ℕ) where
+  pub is-pair : (f t : ℕ) → I ≤ f → 0 < t → t ≤ top f → T (isPair I top f t)
   is-pair f t a b c =
       and-both (not (ltb f I)) (ltb 0 t && leb t (top f))
       (not-T (ltb f I) (λ u. let l = ltb→lt f I u in omega arith))
       (and-both (ltb 0 t) (leb t (top f)) (lt→ltb 0 t b) (le→leb t (top f) c))
 
-  pub pair-facts : (f t : ℕ) → T (isPair I top outputs target f t) → (I ≤ f) × (0 < t) × (t ≤ top f)
+  pub pair-facts : (f t : ℕ) → T (isPair I top f t) → (I ≤ f) × (0 < t) × (t ≤ top f)
   pair-facts f t u =
       let v = and-right (not (ltb f I)) (ltb 0 t && leb t (top f)) u in (
         nltb→le f I (and-left (not (ltb f I)) (ltb 0 t && leb t (top f)) u),
@@ -37,7 +37,11 @@ module _ (I : ℕ) (top : ℕ → ℕ) (outputs : List ℕ) (target : ℕ) where
         leb→le t (top f) (and-right (ltb 0 t) (leb t (top f)) v),
       )
 
-  -- ---- the test, a gate at a time
+-- ---- the test, a gate at a time
+
+module _ (I : ℕ) (top : ℕ → ℕ) (outputs : List ℕ) (target : ℕ) where
+  abbrev Is : ℕ → ℕ → Bool
+  Is = isPair I top
 
   abbrev W : ℕ → List Cell → ℕ → ℕ → Bool
   W = asked I top outputs target
@@ -100,7 +104,7 @@ module _ (I : ℕ) (top : ℕ → ℕ) (outputs : List ℕ) (target : ℕ) where
 
   -- what is asked for is a pair
   pub asked-is-pair : (k : ℕ) (gs : List Cell) (f t : ℕ) → T (asked I top outputs target k gs f t) →
-      T (isPair I top outputs target f t)
+      T (isPair I top f t)
   unfolding asked
   asked-is-pair k [] f t u = and-left (Is f t) (byOutput f t) u
   asked-is-pair k (g ∷ gs) f t u = go (asked-cases k g gs f t u) (λ v. asked-is-pair (suc k) gs f t v)
@@ -111,33 +115,32 @@ module _ (I : ℕ) (top : ℕ → ℕ) (outputs : List ℕ) (target : ℕ) where
 
   -- ---- a gate asks only for nodes below its own
 
-  asked-stays : (k : ℕ) (g : Cell) (gs : List Cell) (f t : ℕ) → k ≤ f → T (gateFits (k, g)) →
+  asked-stays : (k : ℕ) (g : Cell) (gs : List Cell) (f t : ℕ) → k ≤ f →
+      ((p : Pin) → List·Memᴰ p (g .pins) → p .driver < k) →
       T (W k (g ∷ gs) f t) → T (W (suc k) gs f t)
-  asked-stays k g gs f t h fits u = go (asked-cases k g gs f t u)
+  asked-stays k g gs f t h down u = go (asked-cases k g gs f t u)
     where
       go : T (W (suc k) gs f t) ⊎ ByFirst k g gs f t → T (W (suc k) gs f t)
       go (inl v) = v
-      go (inr v) = let l = fits-below (k, g) fits (v .0) (v .1) in let e = v .2 in absurd (omega arith)
+      go (inr v) = let l = down (v .0) (v .1) in let e = v .2 in absurd (omega arith)
 
   -- so that the pins of a node that is asked for ask
-  asked-pin : (k : ℕ) (gs : List Cell) → T (all gateFits (numbered k gs)) →
+  asked-pin : (k : ℕ) (gs : List Cell) → Down k gs →
       (f : ℕ) (g : Cell) → List·Memᴰ (f, g) (numbered k gs) → (t : ℕ) → T (W k gs f t) →
       (p : Pin) → List·Memᴰ p (g .pins) → T (Is (p .driver) (t - p .delay)) → T (W k gs (p .driver) (t - p .delay))
-  asked-pin k [] fits f g m t u p i j = absurd (List·Memᴰ·not-nil m)
-  asked-pin k (h ∷ gs) fits f g (List·Memᴰ·head q) t u p i j =
-      let d = pair-facts (p .driver) (t - p .delay) j in
+  asked-pin k [] down f g m t u p i j = absurd (List·Memᴰ·not-nil m)
+  asked-pin k (h ∷ gs) down f g (List·Memᴰ·head q) t u p i j =
+      let d = pair-facts I top (p .driver) (t - p .delay) j in
       let e : t ≡ t - p .delay + p .delay = omega (arith, d .1) in
       let here = subst (λ (x : ℕ). T (W k (h ∷ gs) x t)) (ap (λ (x : ℕ × Cell). x .0) q) u in
       let own = subst (λ (x : Cell). List·Memᴰ p (x .pins)) (ap (λ (x : ℕ × Cell). x .1) q) i in
-      let fit = and-left (gateFits (k, h)) (all gateFits (numbered (suc k) gs)) fits in
       asked-first k h gs (t - p .delay) p own j
-      (subst (λ (x : ℕ). T (W (suc k) gs k x)) e (asked-stays k h gs k t (omega arith) fit here))
-  asked-pin k (h ∷ gs) fits f g (List·Memᴰ·tail m) t u p i j =
+      (subst (λ (x : ℕ). T (W (suc k) gs k x)) e (asked-stays k h gs k t (omega arith) (down (k, h) (List·Memᴰ·head refl)) here))
+  asked-pin k (h ∷ gs) down f g (List·Memᴰ·tail m) t u p i j =
       let l = numbered-from (suc k) gs f g m in
-      let fit = and-left (gateFits (k, h)) (all gateFits (numbered (suc k) gs)) fits in
       asked-later k h gs (p .driver) (t - p .delay)
-      (asked-pin (suc k) gs (and-right (gateFits (k, h)) (all gateFits (numbered (suc k) gs)) fits) f g m t
-      (asked-stays k h gs f t (omega arith) fit u) p i j)
+      (asked-pin (suc k) gs (λ x n. down x (List·Memᴰ·tail n)) f g m t
+      (asked-stays k h gs f t (omega arith) (down (k, h) (List·Memᴰ·head refl)) u) p i j)
 
   -- ---- both ways
 
@@ -170,20 +173,20 @@ module _ (I : ℕ) (top : ℕ → ℕ) (outputs : List ℕ) (target : ℕ) where
           (subst (λ (x : ℕ). T (Is (p .driver) x)) (sym d) i)))
 
   -- and all of it
-  asked-test : (gs : List Cell) → T (all gateFits (numbered I gs)) → (f t : ℕ) →
+  asked-test : (gs : List Cell) → Down I gs → (f t : ℕ) →
       Asked I top outputs target (numbered I gs) f t → T (W I gs f t)
-  asked-test gs fits f t (output m u) = asked-output I gs f m u
-  asked-test gs fits f t (driver {f = n} {s = r} {g = g} {p = p} m i a u) =
-      asked-pin I gs fits n g m r (asked-test gs fits n r a) p i u
+  asked-test gs down f t (output m u) = asked-output I gs f m u
+  asked-test gs down f t (driver {f = n} {s = r} {g = g} {p = p} m i a u) =
+      asked-pin I gs down n g m r (asked-test gs down n r a) p i u
 
   -- the test passes exactly the least set
-  pub least-set : (gates : List Cell) → T (all gateFits (numbered I gates)) → (f t : ℕ) →
+  pub least-set : (gates : List Cell) → Down I gates → (f t : ℕ) →
       T (asked I top outputs target I gates f t) ↔ Asked I top outputs target (numbered I gates) f t
-  least-set gates fits f t = (test-asked (numbered I gates) I gates (λ x m. m) f t, asked-test gates fits f t)
+  least-set gates down f t = (test-asked (numbered I gates) I gates (λ x m. m) f t, asked-test gates down f t)
 
   -- a member of the least set is a pair
   pub member-is-pair : (gates : List (ℕ × Cell)) (f t : ℕ) → Asked I top outputs target gates f t →
-      T (isPair I top outputs target f t)
+      T (isPair I top f t)
   member-is-pair gates f t (output m u) = u
   member-is-pair gates f t (driver m i a u) = u
 
@@ -193,11 +196,11 @@ module _ (I : ℕ) (top : ℕ → ℕ) (outputs : List ℕ) (target : ℕ) where
   asked-early gates f t (driver {f = n} {s = s} m i a u) = omega (arith, asked-early gates n s a)
 
   -- and its node is one of the netlist's
-  pub asked-below : (gates : List Cell) → T (all gateFits (numbered I gates)) →
+  pub asked-below : (gates : List Cell) → Down I gates →
       ((o : ℕ) → List·Memᴰ o outputs → o < I + length gates) → (f t : ℕ) →
       Asked I top outputs target (numbered I gates) f t → f < I + length gates
-  asked-below gates fits high f t (output m u) = high f m
-  asked-below gates fits high f t (driver {f = n} {g = g} {p = p} m i a u) =
+  asked-below gates down high f t (output m u) = high f m
+  asked-below gates down high f t (driver {f = n} {g = g} {p = p} m i a u) =
       let h = numbered-below I gates n g m in
-      let l = fits-below (n, g) (all-at gateFits (numbered I gates) fits (n, g) m) p i in
+      let l = down (n, g) m p i in
       omega arith

@@ -2,6 +2,7 @@
 -- functions need (Flat on).
 pub mod Numbered
 pub mod Least
+pub mod Rails
 pub mod Rising
 pub mod Unique
 pub mod Closed
@@ -14,6 +15,7 @@ pub mod Linking
 pub mod Walking
 pub mod Spanning
 pub mod Ending
+pub mod Forms
 pub mod Scanning
 pub mod Moving
 pub mod Topping
@@ -21,3 +23,4 @@ pub mod Step
 pub mod Filling
 pub mod Finding
 pub mod Whole
+pub mod Spreading

@@ -1,7 +1,8 @@
 -- The pins that each node drives, in chains of links: a new link stands before its driver's others and leaves all
 -- chains as they were. Laws: chains-start, chains-same, chains-more, chains-wide; to-starts, to-more, to-ends,
--- drives-none; link-gate, link-delay, link-next. Assumes nothing.
-use mathlib.Core.Path.{_≡_, sym, ap, subst, _∙_}
+-- drives-none, drives-all; first-pin, next-pin, last-pin; link-gate, link-next. Assumes nothing.
+use mathlib.Core.Path.{_≡_, refl, sym, ap, subst, _∙_}
+use mathlib.Core.Bool.{_&&_}
 use mathlib.Core.Logic.{_⊎_, inl, inr}
 use mathlib.Core.List.{
   List,
@@ -16,24 +17,33 @@ use mathlib.Core.List.{
 use Prim.Native.Nat.{ℕ, _+_, _*_, _-_, _/_, _%_, _≤_, _<_}
 use native.Mathlib.Omega.{arith}
 use native.Mathlib.Decide.{ℕ-discrete}
+use native.Mathlib.Numerals.{add-one}
+use lib.Dec.{eqb, eqb→eq}
 use lib.ListN.{length, getD, set, length-set}
 use lib.Seq.{getD-set-same, getD-set-other}
+use Rattle.basics.specs.Lists.{upFrom}
+use Rattle.basics.proofs.Truth.{and-right, holds as passes}
+use Rattle.basics.proofs.Lists.{upFrom-mem}
 use Rattle.netlist.specs.declared.Shape.{Shape}
-use Rattle.netlist.specs.File.{firstAt, countAt, driverAt, delayAt}
-use Rattle.pairs.specs.Table.{GateDrives, Drives, Link, Chain, Holding, Chains}
+use Rattle.netlist.specs.File.{kindAt, firstAt, countAt, driverAt}
+use Rattle.netlist.specs.Kinds.{pinsFit}
+use Rattle.netlist.specs.Open.{pinsBefore, gateWrong, gatePlace}
+use Rattle.netlist.specs.Holds.{Holds}
+use Rattle.netlist.proofs.Ranges.{length-upFrom}
+use Rattle.netlist.proofs.FirstWrong.{none-wrong}
+use Rattle.netlist.proofs.Sums.{pins-before-next}
+use Rattle.netlist.proofs.TableOrder.{Passed, passed, not-back}
+use Rattle.pairs.specs.Table.{GateDrives, Drives, Link, Chain, Holding, Chains, mostPins}
 
 -- ---- what a link holds
 
 module _ {links : List ℕ} {e next : ℕ} {x : ℕ × ℕ} (w : Link links e next x) (v : ℕ) (is : v ≡ getD links (e - 1) 0)
   where
-    pub link-gate : v / 1024 % 512 ≡ x .0
-    link-gate = omega (arith, w .is, w .gate-small, w .delay-small)
+    pub link-gate : v % 512 ≡ x .0
+    link-gate = omega (arith, w .is, w .gate-small)
 
-    pub link-delay : v % 1024 ≡ x .1
-    link-delay = omega (arith, w .is, w .gate-small, w .delay-small)
-
-    pub link-next : v / 524288 ≡ next
-    link-next = omega (arith, w .is, w .gate-small, w .delay-small)
+    pub link-next : v / 512 ≡ next
+    link-next = omega (arith, w .is, w .gate-small)
 
 -- ---- a link is stored
 
@@ -48,7 +58,7 @@ chain-keeps links n v e (x ∷ l) h c =
         within = rw length-set (k .within);
         back = k .back;
         gate-small = k .gate-small;
-        delay-small = k .delay-small;
+        pin = k .pin;
         is = getD-set-other links n (e - 1) v 0 (λ q. omega (arith, k .some)) ∙ k .is;
       },
       chain-keeps links n v (c .0) l (omega (arith, k .back)) (c .2),
@@ -100,11 +110,11 @@ chains-wide more h w =
 
 -- one pin more, x, which d drives
 pub chains-more : {Has : ℕ → ℕ × ℕ → Type 0} {heads links : List ℕ} {n : ℕ} (Also : ℕ → ℕ × ℕ → Type 0) (d : ℕ)
-    (x : ℕ × ℕ) (v : ℕ) → Chains Has heads links n → n < length links → d < length heads → x .0 < 512 → x .1 < 1000 →
-    v ≡ (getD heads d 0 * 512 + x .0) * 1024 + x .1 → ((f : ℕ) (y : ℕ × ℕ) → Has f y → Also f y) → Also d x →
+    (x : ℕ × ℕ) (v : ℕ) → Chains Has heads links n → n < length links → d < length heads → x .0 < 512 → n ≡ x .1 →
+    v ≡ getD heads d 0 * 512 + x .0 → ((f : ℕ) (y : ℕ × ℕ) → Has f y → Also f y) → Also d x →
     ((f : ℕ) (y : ℕ × ℕ) → Also f y → Has f y ⊎ ((f ≡ d) × (y ≡ x))) →
     Chains Also (set heads d (n + 1)) (set links n v) (n + 1)
-chains-more {Has} {heads} {links} {n} Also d x v w room drives a b e f also g =
+chains-more {Has} {heads} {links} {n} Also d x v w room drives a p e f also g =
     record { of = λ k h. go k (rw length-set at h) (ℕ-discrete k d) }
   where
     own : Holding (Has d) links n (getD heads d 0)
@@ -138,7 +148,7 @@ chains-more {Has} {heads} {links} {n} Also d x v w room drives a b e f also g =
               within = rw length-set (omega arith);
               back = omega (arith, own .low);
               gate-small = a;
-              delay-small = b;
+              pin = omega arith;
               is =
                   let i : n + 1 - 1 ≡ n = omega arith in
                   ap (λ (y : ℕ). getD (set links n v) y 0) i ∙ getD-set-same links n v 0 room ∙ e;
@@ -173,22 +183,26 @@ module _ {file : List ℕ} {shape : Shape} {i first : ℕ} where
       pick f x (inl u) = u
       pick f x (inr u) = absurd (omega (arith, u .within))
 
-  -- pin k, with its driver and its delay
-  pub to-more : {heads links : List ℕ} {n k driver delay : ℕ} (v : ℕ) →
-      Chains (DrivesTo file shape i first k) heads links n → n < length links → driver < length heads →
-      i < 512 → delay < 1000 → driver ≡ driverAt file shape (first + k) →
-      delay ≡ delayAt file shape (first + k) →
-      v ≡ (getD heads driver 0 * 512 + i) * 1024 + delay →
-      Chains (DrivesTo file shape i first (k + 1)) (set heads driver (n + 1)) (set links n v) (n + 1)
-  to-more {k = k} {driver = driver} {delay = delay} v w room small a b e d q =
-      chains-more (DrivesTo file shape i first (k + 1)) driver (i, delay) v w room small a b q
+  -- pin k, with its driver
+  pub to-more : {heads links : List ℕ} {k driver : ℕ} (v : ℕ) →
+      Chains (DrivesTo file shape i first k) heads links (first + k) → first + k < length links →
+      driver < length heads → i < 512 → driver ≡ driverAt file shape (first + k) →
+      v ≡ getD heads driver 0 * 512 + i →
+      Chains (DrivesTo file shape i first (k + 1)) (set heads driver (first + k + 1)) (set links (first + k) v)
+      (first + (k + 1))
+  to-more {heads} {links} {k} {driver} v w room small a e q =
+      let next : first + k + 1 ≡ first + (k + 1) = omega arith in
+      subst
+      (λ (n : ℕ).
+      Chains (DrivesTo file shape i first (k + 1)) (set heads driver (first + k + 1)) (set links (first + k) v) n) next
+      (chains-more (DrivesTo file shape i first (k + 1)) driver (i, first + k) v w room small a refl q
       (λ f x u. further f x u)
       (inr (record {
         pin = k;
         within = omega arith;
         drives = sym e;
-        is = ap (λ (y : ℕ). (i, y)) d;
-      })) (λ f x u. pick f x u)
+        is = refl;
+      })) (λ f x u. pick f x u))
     where
       further : (f : ℕ) (x : ℕ × ℕ) → DrivesTo file shape i first k f x → DrivesTo file shape i first (k + 1) f x
       further f x (inl u) = inl u
@@ -196,16 +210,15 @@ module _ {file : List ℕ} {shape : Shape} {i first : ℕ} where
           inr (record { pin = u .pin; within = omega (arith, u .within); drives = u .drives; is = u .is })
 
       pick : (f : ℕ) (x : ℕ × ℕ) → DrivesTo file shape i first (k + 1) f x →
-          DrivesTo file shape i first k f x ⊎ ((f ≡ driver) × (x ≡ (i, delay)))
+          DrivesTo file shape i first k f x ⊎ ((f ≡ driver) × (x ≡ (i, first + k)))
       pick f x (inl u) = inl (inl u)
       pick f x (inr u) = go (ℕ-discrete (u .pin) k)
         where
-          go : Dec (u .pin ≡ k) → DrivesTo file shape i first k f x ⊎ ((f ≡ driver) × (x ≡ (i, delay)))
+          go : Dec (u .pin ≡ k) → DrivesTo file shape i first k f x ⊎ ((f ≡ driver) × (x ≡ (i, first + k)))
           go (yes r) =
               inr (
                 sym (u .drives) ∙ ap (λ (y : ℕ). driverAt file shape (first + y)) r ∙ sym e,
-                u .is
-                    ∙ ap (λ (y : ℕ). (i, y)) (ap (λ (y : ℕ). delayAt file shape (first + y)) r ∙ sym d),
+                u .is ∙ ap (λ (y : ℕ). (i, first + y)) r,
               )
           go (no r) =
               inl
@@ -248,7 +261,38 @@ pub drives-none : {file : List ℕ} {shape : Shape} {heads links : List ℕ} →
 drives-none z = chains-start z (λ f x u. omega (arith, u .low))
 
 pub drives-all : {file : List ℕ} {shape : Shape} {heads links : List ℕ} {i n : ℕ} →
-    Chains (Drives file shape i) heads links n → i ≡ shape .gates → n ≤ 3584 →
-    Chains (Drives file shape (shape .gates)) heads links 3584
+    Chains (Drives file shape i) heads links n → i ≡ shape .gates → n ≤ mostPins →
+    Chains (Drives file shape (shape .gates)) heads links mostPins
 drives-all {file} {shape} {heads} {links} {n = n} w e h =
-    chains-wide 3584 h (subst (λ (x : ℕ). Chains (Drives file shape x) heads links n) e w)
+    chains-wide mostPins h (subst (λ (x : ℕ). Chains (Drives file shape x) heads links n) e w)
+
+-- ---- the pins of an accepted file lie one behind the other
+
+module _ {file : List ℕ} {shape : Shape} (holds : Holds file shape) where
+  accepted : Passed file shape
+  accepted = passed file shape (holds .opened)
+
+  -- a gate's first pin is the total of the pin counts in front of it (rule N5)
+  pub first-pin : (gate : ℕ) → gate < shape .gates → firstAt file shape gate ≡ pinsBefore file shape gate
+  unfolding gatePlace gateWrong
+  first-pin gate h =
+      eqb→eq (firstAt file shape gate) (pinsBefore file shape gate)
+      (and-right (pinsFit (kindAt file shape gate) (countAt file shape gate))
+      (eqb (firstAt file shape gate) (pinsBefore file shape gate))
+      (passes
+      (not-back
+      (pinsFit (kindAt file shape gate) (countAt file shape gate)
+      && eqb (firstAt file shape gate) (pinsBefore file shape gate))
+      (none-wrong (gateWrong file shape) (upFrom 0 (shape .gates))
+      (omega (arith, accepted .pins .gates .gates, length-upFrom 0 (shape .gates))) gate
+      (upFrom-mem 0 (shape .gates) gate (omega arith) (omega arith))))))
+
+  -- one gate more
+  pub next-pin : (gate : ℕ) → pinsBefore file shape (gate + 1) ≡ pinsBefore file shape gate + countAt file shape gate
+  next-pin gate = rw (add-one gate) (pins-before-next file shape gate)
+
+  -- and the total of all is P
+  pub last-pin : (gate : ℕ) → gate ≡ shape .gates → pinsBefore file shape gate ≤ mostPins
+  last-pin gate e =
+      let q = ap (pinsBefore file shape) e in
+      omega (arith, accepted .pins .gates .sum, holds .counts .pins-few)

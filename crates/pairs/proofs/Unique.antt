@@ -18,13 +18,13 @@ use Prim.Native.Nat.{ℕ, _+_, _≤_, _<_}
 use native.Mathlib.Omega.{arith}
 use lib.Dec.{T}
 use lib.ListN.{length}
-use Rattle.basics.specs.Lists.{all, upFrom, numbered}
+use Rattle.basics.specs.Lists.{upFrom, numbered}
 use Rattle.basics.proofs.Lists.{mem-map, map-mem, concatMap-mem, mem-concatMap, keep-in, keep-passes, upFrom-mem}
-use Rattle.netlist.specs.Netlist.{Cell, gateFits}
+use Rattle.netlist.specs.Netlist.{Cell}
 use Rattle.pairs.specs.Pairs.{asked, Asked, timesAt, pairList}
 use Rattle.pairs.specs.Rising.{Before, Above, Rising}
 use Rattle.pairs.proofs.Numbered.{numbered-at}
-use Rattle.pairs.proofs.Least.{least-set, pair-facts, asked-is-pair, asked-below}
+use Rattle.pairs.proofs.Least.{Down, least-set, pair-facts, asked-is-pair, asked-below}
 use Rattle.pairs.proofs.Rising.{before-irreflexive, before-transitive, above-at, pairs-rising}
 
 -- ---- rising lists and their members
@@ -88,7 +88,7 @@ module _ {A : Type 0} (Less : A → A → Type 0)
 -- ---- the members of the list of the pairs
 
 module _ (I : ℕ) (top : ℕ → ℕ) (outputs : List ℕ) (target : ℕ) (gates : List Cell)
-    (fits : T (all gateFits (numbered I gates))) where
+    (down : Down I gates) where
   -- a time of a node is a pair that is asked for
   pub time-asked : (f t : ℕ) → List·Memᴰ t (timesAt I top outputs target gates f) →
       T (asked I top outputs target I gates f t)
@@ -100,7 +100,7 @@ module _ (I : ℕ) (top : ℕ → ℕ) (outputs : List ℕ) (target : ℕ) (gate
       List·Memᴰ t (timesAt I top outputs target gates f)
   unfolding timesAt
   asked-time f t u =
-      let w = pair-facts I top outputs target f t (asked-is-pair I top outputs target I gates f t u) in
+      let w = pair-facts I top f t (asked-is-pair I top outputs target I gates f t u) in
       keep-in (asked I top outputs target I gates f) (upFrom 1 (top f)) t
       (upFrom-mem 1 (top f) t (omega (arith, w .1)) (omega (arith, w .2))) u
 
@@ -113,7 +113,7 @@ module _ (I : ℕ) (top : ℕ → ℕ) (outputs : List ℕ) (target : ℕ) (gate
       let w = concatMap-mem (λ y. map (λ t. (y .0, t)) (times (y .0))) (numbered I gates) x m in
       let u = map-mem (λ t. (w .0 .0, t)) (times (w .0 .0)) x (w .2) in
       subst (λ (y : ℕ × ℕ). Asked I top outputs target (numbered I gates) (y .0) (y .1)) (sym (u .2))
-      (least-set I top outputs target gates fits (w .0 .0) (u .0) .0 (time-asked (w .0 .0) (u .0) (u .1)))
+      (least-set I top outputs target gates down (w .0 .0) (u .0) .0 (time-asked (w .0 .0) (u .0) (u .1)))
 
   module _ (high : (o : ℕ) → List·Memᴰ o outputs → o < I + length gates) where
     -- each of the least set is in the list
@@ -122,9 +122,9 @@ module _ (I : ℕ) (top : ℕ → ℕ) (outputs : List ℕ) (target : ℕ) (gate
     unfolding pairList
     asked-pairs f t a =
         let times = timesAt I top outputs target gates in
-        let u = least-set I top outputs target gates fits f t .1 a in
-        let j = pair-facts I top outputs target f t (asked-is-pair I top outputs target I gates f t u) in
-        let w = numbered-at I gates f (j .0) (asked-below I top outputs target gates fits high f t a) in
+        let u = least-set I top outputs target gates down f t .1 a in
+        let j = pair-facts I top f t (asked-is-pair I top outputs target I gates f t u) in
+        let w = numbered-at I gates f (j .0) (asked-below I top outputs target gates down high f t a) in
         mem-concatMap (λ y. map (λ s. (y .0, s)) (times (y .0))) (numbered I gates) (f, w .0) (f, t) (w .1)
         (mem-map (λ s. (f, s)) (times f) t (asked-time f t u))
 

@@ -15,10 +15,12 @@ use mathlib.Core.List.{
 use Prim.Native.Nat.{ℕ, _+_, _<_}
 use native.Mathlib.Omega.{arith}
 use Rattle.netlist.specs.declared.Shape.{Shape}
+use Rattle.netlist.specs.Netlist.{Slopes}
 use Rattle.pairs.specs.Table.{
   Adds,
   Within,
-  PinAsks,
+  askers,
+  LinkAsks,
   OutputAsks,
   Asks,
   AsksAll,
@@ -29,30 +31,30 @@ use Rattle.pairs.specs.Table.{
 }
 use Rattle.pairs.proofs.Asking.{In, asks-same, asks-starts, asks-more}
 
-pub record Walking (l : List (ℕ × ℕ)) (file : List ℕ) (shape : Shape) (target f top : ℕ) (links marks₀ marks : List ℕ)
+pub record Walking (l : List (ℕ × ℕ)) (file : List ℕ) (shape : Shape) (slopes : Slopes) (target f top : ℕ) (links marks₀ marks : List ℕ)
     (at : ℕ) : Type 0 where
   pub done : List (ℕ × ℕ)
   pub rest : List (ℕ × ℕ)
   pub chain : Chain links at rest
   pub adds : (a : List ℕ) → Adds a (Within top (OutputAsks file shape target f)) marks₀ →
-      Adds a (Within top (Asks (In done) l file shape target f)) marks
+      Adds a (Within top (Asks (In done) l file shape slopes target f)) marks
   pub each : (x : ℕ × ℕ) → List·Memᴰ x done → Drives file shape (shape .gates) f x
   pub left : (x : ℕ × ℕ) → List·Memᴰ x rest → Drives file shape (shape .gates) f x
   pub all : (x : ℕ × ℕ) → Drives file shape (shape .gates) f x → List·Memᴰ x done ⊎ List·Memᴰ x rest
 
 -- a link of the chain, and the walk after its pin is marked
-pub record Here (l : List (ℕ × ℕ)) (file : List ℕ) (shape : Shape) (target f top : ℕ) (links marks₀ marks : List ℕ)
+pub record Here (l : List (ℕ × ℕ)) (file : List ℕ) (shape : Shape) (slopes : Slopes) (target f top : ℕ) (links marks₀ marks : List ℕ)
     (at : ℕ) : Type 0 where
   pub pin : ℕ × ℕ
   pub next : ℕ
   pub link : Link links at next pin
   pub drives : Drives file shape (shape .gates) f pin
-  pub walked : (after : List ℕ) → Adds marks (Within top (PinAsks l (shape .inputs + pin .0) (pin .1))) after →
-      Walking l file shape target f top links marks₀ after next
+  pub walked : (after : List ℕ) → Adds marks (Within top (LinkAsks l (askers file shape slopes pin))) after →
+      Walking l file shape slopes target f top links marks₀ after next
 
-module _ {l : List (ℕ × ℕ)} {file : List ℕ} {shape : Shape} {target f top : ℕ} {links marks₀ : List ℕ} where
+module _ {l : List (ℕ × ℕ)} {file : List ℕ} {shape : Shape} {slopes : Slopes} {target f top : ℕ} {links marks₀ : List ℕ} where
   pub walking-starts : {n at : ℕ} → Holding (Drives file shape (shape .gates) f) links n at →
-      Walking l file shape target f top links marks₀ marks₀ at
+      Walking l file shape slopes target f top links marks₀ marks₀ at
   walking-starts w =
       record {
         done = [];
@@ -65,14 +67,14 @@ module _ {l : List (ℕ × ℕ)} {file : List ℕ} {shape : Shape} {target f top
       }
 
   -- a link is left, of a pin that f drives
-  pub walking-here : {marks : List ℕ} {at : ℕ} → Walking l file shape target f top links marks₀ marks at → 0 < at →
-      Here l file shape target f top links marks₀ marks at
+  pub walking-here : {marks : List ℕ} {at : ℕ} → Walking l file shape slopes target f top links marks₀ marks at → 0 < at →
+      Here l file shape slopes target f top links marks₀ marks at
   walking-here {marks} {at} w h = go (w .rest) (w .chain) (w .left) (w .all)
     where
       go : (rest : List (ℕ × ℕ)) → Chain links at rest →
           ((x : ℕ × ℕ) → List·Memᴰ x rest → Drives file shape (shape .gates) f x) →
           ((x : ℕ × ℕ) → Drives file shape (shape .gates) f x → List·Memᴰ x (w .done) ⊎ List·Memᴰ x rest) →
-          Here l file shape target f top links marks₀ marks at
+          Here l file shape slopes target f top links marks₀ marks at
       go [] c left all = absurd (omega arith)
       go (y ∷ rest) c left all =
           record {
@@ -107,9 +109,9 @@ module _ {l : List (ℕ × ℕ)} {file : List ℕ} {shape : Shape} {target f top
           find x (inr m) = move x (List·Memᴰ·cases-cons m)
 
   -- none is left
-  pub walking-ends : {a marks : List ℕ} {at : ℕ} → Walking l file shape target f top links marks₀ marks at →
+  pub walking-ends : {a marks : List ℕ} {at : ℕ} → Walking l file shape slopes target f top links marks₀ marks at →
       at ≡ 0 → Adds a (Within top (OutputAsks file shape target f)) marks₀ →
-      Adds a (Within top (AsksAll l file shape target f)) marks
+      Adds a (Within top (AsksAll l file shape slopes target f)) marks
   walking-ends {a} {marks} {at} w e v =
       asks-same (Drives file shape (shape .gates) f) (w .each) (λ x u. pick x (w .rest) (w .chain) (w .all x u))
       (w .adds a v)

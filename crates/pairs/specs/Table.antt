@@ -9,6 +9,7 @@ use Prim.Native.Nat.{ℕ, suc, _+_, _-_, _*_, _/_, _%_, _^_, _≤_, _<_, min, ma
 use lib.Dec.{ltb}
 use lib.ListN.{length, getD, drop}
 use Rattle.netlist.specs.declared.Shape.{Shape}
+use Rattle.netlist.specs.Netlist.{Slopes, alike, apart}
 use Rattle.netlist.specs.File.{firstAt, countAt, driverAt, delayAt, netlistAt}
 use Rattle.settle.specs.Steps.{latest}
 use Rattle.pairs.specs.declared.Filled.{Filled}
@@ -104,7 +105,21 @@ pinSpan l delay begin end span =
     })
     span
 
--- ---- what asks for node f at t, where the pairs l are known
+-- ---- delays by the file and the lent list
+
+-- a pin's larger delay
+abbrev pub slowAt : List ℕ → Shape → Slopes → ℕ → ℕ
+slowAt file shape alike pin = delayAt file shape pin
+slowAt file shape (apart falls) pin = max (delayAt file shape pin) (getD falls pin 0)
+
+-- the rails of a gate that a pin of it asks by, each with the pin's delay for it; x is the gate's number and the pin's
+abbrev pub askers : List ℕ → Shape → Slopes → ℕ × ℕ → List (ℕ × ℕ)
+askers file shape alike x = (shape .inputs + x .0, delayAt file shape (x .1)) ∷ []
+askers file shape (apart falls) x =
+    ((shape .inputs + x .0) * 2, getD falls (x .1) 0)
+    ∷ ((shape .inputs + x .0) * 2 + 1, delayAt file shape (x .1)) ∷ []
+
+-- ---- what asks for the rails of node f at t, where the pairs l are known
 
 -- a property, from 1 to a top
 pub record Within (top : ℕ) (Has : ℕ → Type 0) (t : ℕ) : Type 0 where
@@ -112,21 +127,27 @@ pub record Within (top : ℕ) (Has : ℕ → Type 0) (t : ℕ) : Type 0 where
   pub few : t ≤ top
   pub has : Has t
 
--- a pin of node n with this delay
+-- a pin of rail n with this delay
 pub record PinAsks (l : List (ℕ × ℕ)) (n delay t : ℕ) : Type 0 where
   pub has : List·Memᴰ (n, t + delay) l
+
+-- a pin, by one of these rails with its delay
+pub record LinkAsks (l by : List (ℕ × ℕ)) (t : ℕ) : Type 0 where
+  pub rail : ℕ × ℕ
+  pub own : List·Memᴰ rail by
+  pub asks : PinAsks l (rail .0) (rail .1) t
 
 -- an output, at the target
 pub record OutputAsks (file : List ℕ) (shape : Shape) (target f t : ℕ) : Type 0 where
   pub same : t ≡ target
   pub output : List·Memᴰ f (netlistAt file shape .outputs)
 
--- one of `count` pins of gate i, from the file's pin `first` on, as the gate's number and the delay
+-- one of `count` pins of gate i, from the file's pin `first` on, as the gate's number and the pin's
 pub record GateDrives (file : List ℕ) (shape : Shape) (first count i f : ℕ) (x : ℕ × ℕ) : Type 0 where
   pub pin : ℕ
   pub within : pin < count
   pub drives : driverAt file shape (first + pin) ≡ f
-  pub is : x ≡ (i, delayAt file shape (first + pin))
+  pub is : x ≡ (i, first + pin)
 
 -- a pin of one of the first i gates
 pub record Drives (file : List ℕ) (shape : Shape) (i f : ℕ) (x : ℕ × ℕ) : Type 0 where
@@ -134,30 +155,30 @@ pub record Drives (file : List ℕ) (shape : Shape) (i f : ℕ) (x : ℕ × ℕ)
   pub low : gate < i
   pub own : GateDrives file shape (firstAt file shape gate) (countAt file shape gate) gate f x
 
--- an output, or a pin of these, each the number of its gate and its delay
-pub data Asks (Pin : ℕ × ℕ → Type 0) (l : List (ℕ × ℕ)) (file : List ℕ) (shape : Shape) (target f t : ℕ) :
-    Type 0 where
-  byOutput : OutputAsks file shape target f t → Asks Pin l file shape target f t
-  byPin : (x : ℕ × ℕ) → Pin x → PinAsks l (shape .inputs + x .0) (x .1) t → Asks Pin l file shape target f t
+-- an output, or a pin of these, each the number of its gate and its own
+pub data Asks (Pin : ℕ × ℕ → Type 0) (l : List (ℕ × ℕ)) (file : List ℕ) (shape : Shape) (slopes : Slopes)
+    (target f t : ℕ) : Type 0 where
+  byOutput : OutputAsks file shape target f t → Asks Pin l file shape slopes target f t
+  byPin : (x : ℕ × ℕ) → Pin x → LinkAsks l (askers file shape slopes x) t → Asks Pin l file shape slopes target f t
 
 -- a pin that f drives
-abbrev pub AsksAll : List (ℕ × ℕ) → List ℕ → Shape → ℕ → ℕ → ℕ → Type 0
-AsksAll l file shape target f t = Asks (Drives file shape (shape .gates) f) l file shape target f t
+abbrev pub AsksAll : List (ℕ × ℕ) → List ℕ → Shape → Slopes → ℕ → ℕ → ℕ → Type 0
+AsksAll l file shape slopes target f t = Asks (Drives file shape (shape .gates) f) l file shape slopes target f t
 
 -- ---- the pins that a node drives, in chains of links
 
--- no netlist has more pins: 448 gates, 8 pins each
+-- no netlist has more pins
 abbrev pub mostPins : ℕ
-mostPins = 3584
+mostPins = 2048
 
--- link number e, counted from 1, holds a pin's gate and delay and the number of the next link
+-- link number e, counted from 1, is that of pin e - 1, and holds its gate and the number of the next link
 pub record Link (links : List ℕ) (e next : ℕ) (x : ℕ × ℕ) : Type 0 where
   pub some : 0 < e
   pub within : e ≤ length links
   pub back : next < e
   pub gate-small : x .0 < 512
-  pub delay-small : x .1 < 1000
-  pub is : getD links (e - 1) 0 ≡ (next * 512 + x .0) * 1024 + x .1
+  pub pin : e ≡ x .1 + 1
+  pub is : getD links (e - 1) 0 ≡ next * 512 + x .0
 
 -- the links from number e on hold these pins, up to number 0
 abbrev pub Chain : List ℕ → ℕ → List (ℕ × ℕ) → Type 0
@@ -176,18 +197,24 @@ pub record Holding (Has : ℕ × ℕ → Type 0) (links : List ℕ) (n e : ℕ) 
 pub record Chains (Has : ℕ → ℕ × ℕ → Type 0) (heads links : List ℕ) (n : ℕ) : Type 0 where
   pub of : (f : ℕ) → f < length heads → Holding (Has f) links n (getD heads f 0)
 
--- ---- where the pairs of each gate begin among the pairs l, from whose front more are to come
+-- ---- where the pairs of each gate's rail begin among the pairs l, from whose front more are to come
 
 -- by how many pairs stand from there on
-pub record EndsAt (l : List (ℕ × ℕ)) (inputs : ℕ) (ends : List ℕ) (number : ℕ) : Type 0 where
+pub record EndsAt (l : List (ℕ × ℕ)) (rail : ℕ) (ends : List ℕ) (number : ℕ) : Type 0 where
   pub few : getD ends number 0 ≤ length l
-  pub from : Precede l ((inputs + number) * 4294967296) (length l - getD ends number 0)
+  pub from : Precede l (rail * 4294967296) (length l - getD ends number 0)
 
--- for each gate above node f, and for the node after the last
-pub record Ended (l : List (ℕ × ℕ)) (shape : Shape) (ends : List ℕ) (f : ℕ) : Type 0 where
-  pub of : (number : ℕ) → f < shape .inputs + number → number ≤ shape .gates → EndsAt l (shape .inputs) ends number
+-- for each rail from `low` on, and for the one after the last; the rails of gates are those from `first` to before `last`
+pub record Ended (l : List (ℕ × ℕ)) (first last : ℕ) (ends : List ℕ) (low : ℕ) : Type 0 where
+  pub of : (number : ℕ) → low ≤ first + number → first + number ≤ last → EndsAt l (first + number) ends number
 
 -- the table's end holds the pairs l, or they are more than there is room for
 abbrev pub Kept : List (ℕ × ℕ) → ℕ → List ℕ → Filled → Type 0
 Kept l room table (From k) = (k + length l ≡ room) × (drop (k * 2) table ≡ flatPairs l)
 Kept l room table Full = room < length l
+
+-- a pair is stored at three places, and what is before it stays
+pub record Put (before : List ℕ) (k rail time : ℕ) (after : List ℕ) : Type 0 where
+  pub len : length after ≡ length before
+  pub is : drop (k * 3) after ≡ rail / 2 ∷ rail % 2 ∷ time ∷ drop (k * 3 + 3) before
+  pub low : (j : ℕ) → j < k * 3 → getD after j 0 ≡ getD before j 0

@@ -18,10 +18,10 @@ use Rattle.netlist.specs.declared.Shape.{Shape}
 use Rattle.netlist.specs.declared.Opened.the-variants.{Accepted, Refused as Rejected}
 use Rattle.netlist.specs.Netlist.{Circuit, nodeCount, Slopes}
 use Rattle.netlist.specs.Kinds.{bit}
-use Rattle.netlist.specs.File.{circuitAt, circuitWith}
+use Rattle.netlist.specs.File.{circuitWith}
 use Rattle.netlist.specs.Open.{firstWrong, openCircuitOf, slopeRows}
 use Rattle.netlist.proofs.Entries.{net-inputs, node-count}
-use Rattle.netlist.proofs.Calls.{list-passes, call-accepted, call-rejected}
+use Rattle.netlist.proofs.Calls.{list-passes, call-accepted, call-sloped, call-rejected}
 use Rattle.settle.specs.declared.Settled.{Settled}
 use Rattle.settle.specs.declared.Settled.the-variants.{At, Refused}
 use Rattle.settle.specs.Settling.{circuitTime}
@@ -73,16 +73,16 @@ usable shape vector valuesRoom timesRoom g e =
     }
 
 -- the evaluation of a file's netlist, as they say
-pub by-checks : {given : Checked} (file : List ℕ) (shape : Shape) (arrivals vector : List ℕ)
-    (valuesRoom timesRoom : ℕ) →
+pub by-checks : {given : Checked} (file : List ℕ) (shape : Shape) (arrivals : List ℕ) (slopes : Slopes)
+    (vector : List ℕ) (valuesRoom timesRoom : ℕ) →
     given ≡ checked (givenRows (shape .inputs) (shape .inputs + shape .gates) vector valuesRoom timesRoom) →
-    evaluationOf (circuitAt file shape arrivals) vector valuesRoom timesRoom
+    evaluationOf (circuitWith file shape arrivals slopes) vector valuesRoom timesRoom
     ≡ unlessRefused given (refused valuesRoom timesRoom)
-    (settled (circuitAt file shape arrivals) vector valuesRoom timesRoom)
+    (settled (circuitWith file shape arrivals slopes) vector valuesRoom timesRoom)
 unfolding evaluationOf
-by-checks file shape arrivals vector valuesRoom timesRoom g =
+by-checks file shape arrivals slopes vector valuesRoom timesRoom g =
     ap (λ (c : Checked). unlessRefused c (refused valuesRoom timesRoom)
-    (settled (circuitAt file shape arrivals) vector valuesRoom timesRoom))
+    (settled (circuitWith file shape arrivals slopes) vector valuesRoom timesRoom))
     (ap₂ (λ (inputs count : ℕ). checked (givenRows inputs count vector valuesRoom timesRoom))
     (net-inputs file shape) (node-count file shape)
     ∙ sym g)
@@ -97,6 +97,16 @@ module _ (file arrivals : List ℕ) (slopes : Slopes) (vector : List ℕ) (value
   unfolding evaluation evaluationOf
   of-accepted shape e f =
       call-accepted file arrivals slopes (λ circuit. evaluationRows circuit vector valuesRoom timesRoom)
+      (refused valuesRoom timesRoom)
+      (λ circuit. settled circuit vector valuesRoom timesRoom) e f
+
+  -- slopes that are refused end it
+  pub of-sloped : (shape : Shape) (refusal : Refusal) → openCircuitOf file arrivals ≡ Accepted shape →
+      checked (slopeRows (shape .pins) slopes) ≡ Fails refusal →
+      evaluation file arrivals slopes vector valuesRoom timesRoom ≡ refused valuesRoom timesRoom refusal
+  unfolding evaluation
+  of-sloped shape refusal e f =
+      call-sloped file arrivals slopes (λ circuit. evaluationRows circuit vector valuesRoom timesRoom)
       (refused valuesRoom timesRoom)
       (λ circuit. settled circuit vector valuesRoom timesRoom) e f
 

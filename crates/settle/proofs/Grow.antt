@@ -1,6 +1,6 @@
 -- A list that grows by an entry a gate: how long it gets, that entries once made stay, and that each gate's entry is
 -- what its step makes of the whole list, since a gate reads its drivers' entries alone and these come before it. Laws:
--- grow-length, grow-keeps, grow-begins, grow-fixed. Assumes nothing.
+-- grow-length, grow-keeps, grow-begins, grow-fixed, grow-cong. Assumes nothing.
 use mathlib.Core.Path.{_≡_, refl, sym, ap, _∙_, subst}
 use mathlib.Core.List.{List, [], _∷_, _++_, List·Memᴰ, List·Memᴰ·head, List·Memᴰ·tail, List·Memᴰ·not-nil}
 use Prim.Native.Nat.{ℕ, suc, _+_, _<_}
@@ -82,3 +82,14 @@ module _ {A : Type 0} (none : A) (step : Cell → (ℕ → A) → A) where
         let f = length-append done (step h (λ node. getD done node none) ∷ []) in
         grow-fixed (more done h) cells (suc k) (omega arith)
         (and-right (gateFits (k, h)) (all gateFits (numbered (suc k) cells)) fits) n cell m
+
+-- two steps that agree on each gate make the same list
+pub grow-cong : {A : Type 0} (none : A) (f g : Cell → (ℕ → A) → A) (done : List A) (cells : List Cell) →
+    ((cell : Cell) → List·Memᴰ cell cells → (entry : ℕ → A) → f cell entry ≡ g cell entry) →
+    grow none f done cells ≡ grow none g done cells
+unfolding grow
+grow-cong none f g done [] same = refl
+grow-cong none f g done (cell ∷ cells) same =
+    ap (λ x. grow none f (done ++ (x ∷ [])) cells) (same cell (List·Memᴰ·head refl) (λ node. getD done node none))
+    ∙ grow-cong none f g (done ++ (g cell (λ node. getD done node none) ∷ [])) cells
+    (λ c m. same c (List·Memᴰ·tail m))

@@ -7,12 +7,14 @@ use mathlib.Core.List.{List, [], _∷_, map}
 use Prim.Native.Nat.{ℕ, suc, _+_, _-_, _≤_, _<_, max, min}
 use native.Mathlib.Omega.{arith}
 use native.Mathlib.Numerals.{add-one}
+use lib.ListN.{length}
 use Rattle.basics.specs.Lists.{any, keep}
 use Rattle.basics.proofs.Truth.{by-table-of-three}
 use Rattle.netlist.specs.declared.Shape.{Shape}
 use Rattle.netlist.specs.declared.Kind.the-variants.{Simple, Parity, Mux}
 use Rattle.netlist.specs.Netlist.{Pin}
-use Rattle.netlist.specs.File.{pinAt, pinsFrom}
+use Rattle.netlist.specs.File.{driverAt, pinAt, pinsFrom}
+use Rattle.netlist.specs.Holds.{Tables}
 use Rattle.netlist.proofs.Pins.{pins-next, pins-none}
 use Rattle.settle.specs.declared.Signal.{Signal}
 use Rattle.settle.specs.declared.Scan.{Scan}
@@ -40,6 +42,12 @@ wired-pin w pin l h =
       paired = w .paired;
       early = w .early;
     }
+
+-- its driver is within the slice of values
+pub wired-driver : {file : List ℕ} {shape : Shape} {first count : ℕ} {values times : List ℕ} →
+    Wired file shape first count values times → (pin : ℕ) → first ≤ pin → pin < first + count →
+    Tables file shape × (pin < shape .pins) × (driverAt file shape pin < length values)
+wired-driver w pin l h = (w .tables, omega (arith, w .within), w .drivers pin l h)
 
 -- a number of pins under another name
 pub wired-as : {file : List ℕ} {shape : Shape} {first count n : ℕ} {values times : List ℕ} → count ≡ n →
@@ -218,25 +226,27 @@ module _ (values times : List ℕ) (c : Bool) where
       ∙ ap (λ b. cond b (scanOf values times c ps .first) (last (pinReady times) ps)) (sym s)
       ∙ scan-first ps (last (pinReady times) ps))
 
--- the loop's invariant: the last pins are scanned, `left` are not
-pub record Scanning (file : List ℕ) (shape : Shape) (begin count : ℕ) (values times : List ℕ) (c : Bool) (scan : Scan)
-    (left : ℕ) : Type 0 where
+-- the loop's invariant: the last pins are scanned, `left` are not; each as `read` makes it
+pub record Scanning (read : Pin → Pin) (file : List ℕ) (shape : Shape) (begin count : ℕ) (values times : List ℕ)
+    (c : Bool) (scan : Scan) (left : ℕ) : Type 0 where
   pub upto : left ≤ count
-  pub is : scan ≡ scanOf values times c (pinsFrom file shape (begin + left) (count - left))
+  pub is : scan ≡ scanOf values times c (map read (pinsFrom file shape (begin + left) (count - left)))
 
-pub scanning-starts : (file : List ℕ) (shape : Shape) (begin count : ℕ) (values times : List ℕ) (c : Bool) →
-    Scanning file shape begin count values times c (record { some = false; first = 0; last = 0 }) count
+pub scanning-starts : (read : Pin → Pin) (file : List ℕ) (shape : Shape) (begin count : ℕ) (values times : List ℕ)
+    (c : Bool) →
+    Scanning read file shape begin count values times c (record { some = false; first = 0; last = 0 }) count
 unfolding scanOf
-scanning-starts file shape begin count values times c =
+scanning-starts read file shape begin count values times c =
     record { upto = omega arith; is = rw (pins-none file shape begin count count (omega arith)) }
 
-pub scanning-more : {file : List ℕ} {shape : Shape} {begin count : ℕ} {values times : List ℕ} {c : Bool} {scan : Scan}
-    {left : ℕ} → Scanning file shape begin count values times c scan left → 0 < left → (pin : Signal) (next : Scan) →
-    pin ≡ pinSignal values times (pinAt file shape (begin + (left - 1))) →
+pub scanning-more : {read : Pin → Pin} {file : List ℕ} {shape : Shape} {begin count : ℕ} {values times : List ℕ}
+    {c : Bool} {scan : Scan} {left : ℕ} →
+    Scanning read file shape begin count values times c scan left → 0 < left → (pin : Signal) (next : Scan) →
+    pin ≡ pinSignal values times (read (pinAt file shape (begin + (left - 1)))) →
     next ≡ withPin scan (Bool·beq (pin .value) c) (pin .at) →
-    Scanning file shape begin count values times c next (left - 1)
+    Scanning read file shape begin count values times c next (left - 1)
 unfolding scanOf pinSignal
-scanning-more {file} {shape} {begin} {count} {values} {times} {c} {scan} {left} b h pin next p q =
+scanning-more {read} {file} {shape} {begin} {count} {values} {times} {c} {scan} {left} b h pin next p q =
     let e : left - 1 + 1 ≡ left = omega arith in
     record {
       upto = omega (arith, b .upto);
@@ -244,15 +254,27 @@ scanning-more {file} {shape} {begin} {count} {values} {times} {c} {scan} {left} 
           q
           ∙ ap₂ (λ (s : Scan) (x : Signal). withPin s (Bool·beq (x .value) c) (x .at)) (b .is) p
           ∙ sym
-          (ap (scanOf values times c)
+          (ap (λ (ps : List Pin). scanOf values times c (map read ps))
           (pins-next file shape begin count (left - 1) (omega (arith, b .upto))
           ∙ ap (λ (n : ℕ). pinAt file shape (begin + (left - 1)) ∷ pinsFrom file shape (begin + n) (count - n)) e));
     }
 
-pub scanning-ends : {file : List ℕ} {shape : Shape} {begin count : ℕ} {values times : List ℕ} {c : Bool} {scan : Scan}
-    {left : ℕ} → Scanning file shape begin count values times c scan left → left ≤ 0 →
-    scan ≡ scanOf values times c (pinsFrom file shape begin count)
-scanning-ends {file} {shape} {begin} {count} {values} {times} {c} {scan} {left} b h =
+pub scanning-ends : {read : Pin → Pin} {file : List ℕ} {shape : Shape} {begin count : ℕ} {values times : List ℕ}
+    {c : Bool} {scan : Scan} {left : ℕ} →
+    Scanning read file shape begin count values times c scan left → left ≤ 0 →
+    scan ≡ scanOf values times c (map read (pinsFrom file shape begin count))
+scanning-ends {read} {file} {shape} {begin} {count} {values} {times} {c} {scan} {left} b h =
     let e : begin + left ≡ begin = omega arith in
     let f : count - left ≡ count = omega arith in
-    b .is ∙ ap₂ (λ (n m : ℕ). scanOf values times c (pinsFrom file shape n m)) e f
+    b .is ∙ ap₂ (λ (n m : ℕ). scanOf values times c (map read (pinsFrom file shape n m))) e f
+
+-- pins as they are
+pub map-same : {A : Type 0} (l : List A) → map (λ (x : A). x) l ≡ l
+map-same [] = refl
+map-same (x ∷ l) = ap (λ t. x ∷ t) (map-same l)
+
+pub scanned : {file : List ℕ} {shape : Shape} {begin count : ℕ} {values times : List ℕ} {c : Bool} {scan : Scan}
+    {left : ℕ} → Scanning (λ p. p) file shape begin count values times c scan left → left ≤ 0 →
+    scan ≡ scanOf values times c (pinsFrom file shape begin count)
+scanned {file} {shape} {begin} {count} {values} {times} {c} b h =
+    scanning-ends b h ∙ ap (scanOf values times c) (map-same (pinsFrom file shape begin count))

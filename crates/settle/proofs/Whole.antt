@@ -23,8 +23,9 @@ use Rattle.lent.specs.Copied.{Copied}
 use Rattle.lent.proofs.Filling.{copied-front, copied-behind, copied-length}
 use Rattle.netlist.specs.declared.Shape.{Shape}
 use Rattle.netlist.specs.Kinds.{bit}
-use Rattle.netlist.specs.File.{netlistAt, circuitAt, outputAt}
-use Rattle.netlist.specs.Holds.{Holds, Arrived, Given}
+use Rattle.netlist.specs.File.{netlistAt, circuitWith, outputAt}
+use Rattle.netlist.specs.Holds.{Holds, Arrived, Given, Sloped}
+use Rattle.netlist.specs.Netlist.{Slopes}
 use Rattle.netlist.proofs.Entries.{outputs-from, outputs-done, node-count}
 use Rattle.netlist.proofs.Valid.{valid-outputs}
 use Rattle.settle.specs.declared.Settled.the-variants.{At}
@@ -32,6 +33,7 @@ use Rattle.settle.specs.Settling.{last, valuesOf, timesOf, timeOf, circu
 use Rattle.settle.specs.Promise.{Meets, bits, settled}
 use Rattle.settle.specs.Steps.{Begun, Done, Usable}
 use Rattle.settle.proofs.Argument.{last-cong}
+use Rattle.settle.proofs.Slopes.{sloped-small}
 use Rattle.settle.proofs.Gates.{allValues, allTimes, all-values-length, all-times-length}
 
 -- ---- all nodes
@@ -61,11 +63,11 @@ module _ {shape : Shape} {arrivals vector values₀ times₀ values times : List
       }
 
   -- the gates behind these inputs are all nodes under this vector
-  pub all-nodes : {file after-values after-times : List ℕ} →
-      Done file shape (take (shape .inputs) times) (bits (take (shape .inputs) values)) values times after-values
+  pub all-nodes : {file after-values after-times : List ℕ} {slopes : Slopes} →
+      Done file shape (take (shape .inputs) times) slopes (bits (take (shape .inputs) values)) values times after-values
       after-times →
-      Done file shape arrivals (bits vector) values₀ times₀ after-values after-times
-  all-nodes {file} d =
+      Done file shape arrivals slopes (bits vector) values₀ times₀ after-values after-times
+  all-nodes {file} {slopes = slopes} d =
       let n : shape .inputs ≤ shape .inputs + shape .gates = omega arith in
       let begins = copied-front v (shape .inputs) (u .long) in
       record {
@@ -75,9 +77,9 @@ module _ {shape : Shape} {arrivals vector values₀ times₀ values times : List
             (copied-behind v (shape .inputs) (u .long) (shape .inputs + shape .gates) n);
         times-are =
             d .times-are
-            ∙ ap (λ (l : List ℕ). timesOf (circuitAt file shape l) (bits (take (shape .inputs) values))
+            ∙ ap (λ (l : List ℕ). timesOf (circuitWith file shape l slopes) (bits (take (shape .inputs) values))
             ++ drop (shape .inputs + shape .gates) times) (copied-front t (shape .inputs) (a .long))
-            ∙ ap₂ (λ (l r : List ℕ). timesOf (circuitAt file shape arrivals) (bits l) ++ r) begins
+            ∙ ap₂ (λ (l r : List ℕ). timesOf (circuitWith file shape arrivals slopes) (bits l) ++ r) begins
             (copied-behind t (shape .inputs) (a .long) (shape .inputs + shape .gates) n);
       }
 
@@ -111,20 +113,20 @@ module _ {file : List ℕ} {shape : Shape} {times : List ℕ} {latest position :
       let q = ap (last (λ node. getD times node 0)) (outputs-done file shape position h) in omega (arith, b .left)
 
 -- over the netlist's times it is the circuit's
-pub circuit-is : {file : List ℕ} {shape : Shape} (h : Holds file shape) (arrivals : List ℕ) (vector : List Bool)
-    (rest : List ℕ) →
-    length (timesOf (circuitAt file shape arrivals) vector) ≡ shape .inputs + shape .gates →
+pub circuit-is : {file : List ℕ} {shape : Shape} (h : Holds file shape) (arrivals : List ℕ) (slopes : Slopes)
+    (vector : List Bool) (rest : List ℕ) →
+    length (timesOf (circuitWith file shape arrivals slopes) vector) ≡ shape .inputs + shape .gates →
     last
-    (λ node. getD (timesOf (circuitAt file shape arrivals) vector ++ rest) node 0)
+    (λ node. getD (timesOf (circuitWith file shape arrivals slopes) vector ++ rest) node 0)
     (netlistAt file shape .outputs)
-    ≡ circuitTime (circuitAt file shape arrivals) vector
+    ≡ circuitTime (circuitWith file shape arrivals slopes) vector
 unfolding circuitTime
-circuit-is {file} {shape} h arrivals vector rest l =
+circuit-is {file} {shape} h arrivals slopes vector rest l =
     last-cong
-    (λ node. getD (timesOf (circuitAt file shape arrivals) vector ++ rest) node 0)
-    (timeOf (circuitAt file shape arrivals) vector) (netlistAt file shape .outputs)
+    (λ node. getD (timesOf (circuitWith file shape arrivals slopes) vector ++ rest) node 0)
+    (timeOf (circuitWith file shape arrivals slopes) vector) (netlistAt file shape .outputs)
     (λ o m.
-    List·getD-append (timesOf (circuitAt file shape arrivals) vector) rest 0 o
+    List·getD-append (timesOf (circuitWith file shape arrivals slopes) vector) rest 0 o
     (omega (arith, valid-outputs (netlistAt file shape) (h .valid) o m, node-count file shape)))
 
 -- ---- zeros behind the nodes
@@ -143,36 +145,37 @@ zeroed whole before now after n room w r l e f =
     (ap (λ (m : ℕ). replicate (m - n) 0) k)
 
 -- all nodes, the circuit's time and zeros are the settled evaluation
-pub settled-is : {file : List ℕ} {shape : Shape} {arrivals vector values₀ times₀ values times : List ℕ} →
-    Given file shape arrivals → Usable shape vector (length values₀) (length times₀) →
-    Done file shape arrivals (bits vector) values₀ times₀ values times →
+pub settled-is : {file : List ℕ} {shape : Shape} {arrivals : List ℕ} {slopes : Slopes}
+    {vector values₀ times₀ values times : List ℕ} → Given file shape arrivals → Sloped shape slopes → Usable shape vector (length values₀) (length times₀) →
+    Done file shape arrivals slopes (bits vector) values₀ times₀ values times →
     (time : ℕ) (valuesEnd timesEnd : List ℕ) →
     time ≡ last (λ node. getD times node 0) (netlistAt file shape .outputs) →
     valuesEnd
     ≡ take (shape .inputs + shape .gates) values ++ replicate (length values - (shape .inputs + shape .gates)) 0 →
     timesEnd
     ≡ take (shape .inputs + shape .gates) times ++ replicate (length times - (shape .inputs + shape .gates)) 0 →
-    Meets (settled (circuitAt file shape arrivals) vector (length values₀) (length times₀))
+    Meets (settled (circuitWith file shape arrivals slopes) vector (length values₀) (length times₀))
     (At time) valuesEnd timesEnd
 unfolding settled
-settled-is {file} {shape} {arrivals} {vector} {values₀} {times₀} {values} {times} given u d time valuesEnd timesEnd t v
-    w =
+settled-is {file} {shape} {arrivals} {slopes} {vector} {values₀} {times₀} {values} {times} given sloped u d time
+    valuesEnd timesEnd t v w =
+    let small = sloped-small shape slopes sloped in
     let long : length (bits vector) ≡ shape .inputs = length-map vector (λ byte. eqb byte 1) ∙ u .long in
-    let v-long = all-values-length (given .holds) (given .arrived) (bits vector) long in
-    let t-long = all-times-length (given .holds) (given .arrived) (bits vector) long in
+    let v-long = all-values-length (given .holds) (given .arrived) slopes small (bits vector) long in
+    let t-long = all-times-length (given .holds) (given .arrived) slopes small (bits vector) long in
     let nodes = sym (node-count file shape) in
     record {
       answer-is =
           ap At
           (t
           ∙ ap (λ (l : List ℕ). last (λ node. getD l node 0) (netlistAt file shape .outputs)) (d .times-are)
-          ∙ circuit-is (given .holds) arrivals (bits vector) (drop (shape .inputs + shape .gates) times₀) t-long);
+          ∙ circuit-is (given .holds) arrivals slopes (bits vector) (drop (shape .inputs + shape .gates) times₀) t-long);
       values-are =
           zeroed (allValues file shape (bits vector)) values₀ values valuesEnd _ _ v-long refl (u .values-room)
           (d .values-are) v
           ∙ ap (λ (n : ℕ). allValues file shape (bits vector) ++ replicate (length values₀ - n) 0) nodes;
       times-are =
-          zeroed (allTimes file shape arrivals (bits vector)) times₀ times timesEnd _ _ t-long refl (u .times-room)
+          zeroed (allTimes file shape arrivals slopes (bits vector)) times₀ times timesEnd _ _ t-long refl (u .times-room)
           (d .times-are) w
-          ∙ ap (λ (n : ℕ). allTimes file shape arrivals (bits vector) ++ replicate (length times₀ - n) 0) nodes;
+          ∙ ap (λ (n : ℕ). allTimes file shape arrivals slopes (bits vector) ++ replicate (length times₀ - n) 0) nodes;
     }

@@ -1,5 +1,5 @@
 -- The cases of rule X3 on settling, on the bytes of their files: one table, and one statement over it; and the tops of
--- circuit A. Interface: Case, cases, lateCases, cases-hold, tops-hold.
+-- circuit A. Interface: Case, run, cases, lateCases, cases-hold, tops-hold.
 use mathlib.Core.Path.{_≡_, refl}
 use mathlib.Core.List.{List, [], _∷_, map}
 use Prim.Native.Nat.{ℕ}
@@ -27,12 +27,14 @@ use Rattle.netlist.specs.Edges.{written}
 use Rattle.settle.specs.declared.Settled.the-variants.{At}
 use Rattle.settle.specs.Settling.{gateValue, settles, grow, valuesOf, timesOf, topsOf, circuitTime}
 use Rattle.settle.specs.Promise.{Evaluation, evaluation, givenRows, settled}
-use Rattle.netlist.specs.Netlist.{alike}
+use Rattle.netlist.specs.Netlist.{Slopes, alike}
 
--- one case: a file, the arrivals of its inputs, a vector, and what an evaluation with just enough room gives
+-- one case: a file, the arrivals of its inputs, how its delays depend on a gate's final value, a vector, and what an
+-- evaluation with just enough room gives
 pub record Case : Type 0 where
   pub file : List ℕ
   pub arrivals : List ℕ
+  pub slopes : Slopes
   pub vector : List ℕ
   pub expected : Evaluation
 
@@ -57,12 +59,18 @@ settlesAt time values times = record { answer = At time; values = values; times 
 -- a file whose inputs arrive at 0, a vector, and what they give
 abbrev case : List ℕ → List ℕ → Evaluation → Case
 case file vector expected =
-    record { file = file; arrivals = replicate (length vector) 0; vector = vector; expected = expected }
+    record {
+      file = file;
+      arrivals = replicate (length vector) 0;
+      slopes = alike;
+      vector = vector;
+      expected = expected;
+    }
 
 -- circuit A with the arrivals of a and b
 abbrev arriving : List ℕ → List ℕ → Evaluation → Case
 arriving arrivals vector expected =
-    record { file = circuitA; arrivals = arrivals; vector = vector; expected = expected }
+    record { file = circuitA; arrivals = arrivals; slopes = alike; vector = vector; expected = expected }
 
 -- the table
 unfoldable pub cases : List Case
@@ -95,14 +103,15 @@ lateCases =
     ∷ record {
       file = written 1 [] [] (0 ∷ []);
       arrivals = 7 ∷ [];
+      slopes = alike;
       vector = 1 ∷ [];
       expected = settlesAt 7 (1 ∷ []) (7 ∷ []);
     }
     ∷ []
 
 -- the evaluation of a case
-abbrev run : Case → Evaluation
-run c = evaluation (c .file) (c .arrivals) alike (c .vector) (length (c .expected .values)) (length (c .expected .times))
+abbrev pub run : Case → Evaluation
+run c = evaluation (c .file) (c .arrivals) (c .slopes) (c .vector) (length (c .expected .values)) (length (c .expected .times))
 
 -- each case is evaluated as expected
 pub cases-hold : map run cases ≡ map (λ c. c .expected) cases

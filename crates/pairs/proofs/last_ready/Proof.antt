@@ -2,40 +2,41 @@
 -- Assumes nothing.
 use Prim.Native.Nat.{_-_, _≤_}
 use native.Mathlib.Omega.{arith}
+use Rattle.netlist.specs.Netlist.{slopesBy}
 use Rattle.netlist.proofs.GateRead.{gate-within, driver-below}
 use Rattle.pairs.proofs.Topping.{Readying, readying-starts, readying-more, readying-ends}
 use Rattle.pairs.proofs.last_ready.Statement.{statement}
 use Rattle.pairs.proofs.last_ready.Tie as tie
 
 abbrev Inv-loop : tie.InvT-loop
-Inv-loop file shape number tops first count latest₀ k₀ latest k = (k ≤ count) × Readying file shape number tops latest k
+Inv-loop file shape form falls number tops first count latest₀ k₀ latest k = (k ≤ count) × Readying file shape (slopesBy form falls) number tops latest k
 
 abbrev μ-loop : tie.MeasureT-loop
-μ-loop file shape number tops first count latest₀ k₀ latest k = count - k
+μ-loop file shape form falls number tops first count latest₀ k₀ latest k = count - k
 
 gate-at-requires : tie.Need-gate-at-requires Inv-loop μ-loop
-gate-at-requires c κs = (c .before .before .pre .0 .tables, c .before .before .pre .1)
+gate-at-requires c κs = (c .before .before .before .pre .0 .tables, c .before .before .before .pre .2)
 
 loop-holds : tie.Need-loop-holds Inv-loop μ-loop
-loop-holds c = (omega arith, readying-starts _ _ _ _)
+loop-holds c = (omega arith, readying-starts _ _ _ _ _)
 
 add-pin : tie.Need-add-pin Inv-loop μ-loop
 add-pin c =
     let gate = c .before .before in
-    let start = gate .before .before .before in
-    omega (arith, gate-within _ (start .pre .0) (start .pre .1) (gate .gate-at .ensures .0))
+    let start = gate .before .before .before .before in
+    omega (arith, gate-within _ (start .pre .0) (start .pre .2) (gate .gate-at .ensures .0))
 
 driver-at-requires : tie.Need-driver-at-requires Inv-loop μ-loop
 driver-at-requires c κs =
     let gate = c .before .before in
-    let start = gate .before .before .before in
-    (start .pre .0 .tables, omega (arith, gate-within _ (start .pre .0) (start .pre .1) (gate .gate-at .ensures .0)))
+    let start = gate .before .before .before .before in
+    (start .pre .0 .tables, omega (arith, gate-within _ (start .pre .0) (start .pre .2) (gate .gate-at .ensures .0)))
 
-delay-at-requires : tie.Need-delay-at-requires Inv-loop μ-loop
-delay-at-requires c κs =
+slow-at-requires : tie.Need-slow-at-requires Inv-loop μ-loop
+slow-at-requires c κs =
     let gate = c .before .before .before in
-    let start = gate .before .before .before in
-    (start .pre .0 .tables, omega (arith, gate-within _ (start .pre .0) (start .pre .1) (gate .gate-at .ensures .0)))
+    let start = gate .before .before .before .before in
+    (start .pre .0 .tables, start .pre .1, omega (arith, gate-within _ (start .pre .0) (start .pre .2) (gate .gate-at .ensures .0)))
 
 mul-widen : tie.Need-mul-widen Inv-loop μ-loop
 mul-widen c = omega arith
@@ -43,13 +44,13 @@ mul-widen c = omega arith
 shared-slice-read-widen : tie.Need-shared-slice-read-widen Inv-loop μ-loop
 shared-slice-read-widen c =
     let gate = c .before .before .before .before .before in
-    let start = gate .before .before .before in
+    let start = gate .before .before .before .before in
     let below =
-    driver-below _ (start .pre .0) (start .pre .1) (gate .gate-at .ensures .0)
+    driver-below _ (start .pre .0) (start .pre .2) (gate .gate-at .ensures .0)
     (c .before .before .before .before .loop .k) _
     (c .before .before .before .loop-test .taken) (c .before .before .driver-at .ensures .0)
     in
-    omega (arith, start .pre .2)
+    omega (arith, start .pre .3)
 
 widen-requires : tie.Need-widen-requires Inv-loop μ-loop
 widen-requires c κs = tt
@@ -72,7 +73,7 @@ loop-again c =
       omega arith,
       readying-more _ _ _ _ _ (turn .before .gate-at .ensures .0) (turn .loop .inv .1)
           (c .before .before .before .before .before .loop-test .taken)
-          (c .before .before .before .before .driver-at .ensures .0) (c .before .before .before .delay-at .ensures .0)
+          (c .before .before .before .before .driver-at .ensures .0) (c .before .before .before .slow-at .ensures .0)
           (c .before .widen .ensures .0)
           (c .larger .ensures),
     )
@@ -90,7 +91,7 @@ last-ready-spec =
     loop-holds
     add-pin
     driver-at-requires
-    delay-at-requires
+    slow-at-requires
     mul-widen
     shared-slice-read-widen
     widen-requires

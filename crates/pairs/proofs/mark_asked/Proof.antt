@@ -1,83 +1,74 @@
 -- `pairs::mark_asked` meets its contract: what the outputs and the pins walked by ask for is marked. Assumes nothing.
 use mathlib.Core.Path.{_≡_, refl}
-use Prim.Native.Nat.{_+_, _/_, _%_, _<_}
+use Prim.Native.Nat.{_+_, _-_, _<_}
 use native.Mathlib.Omega.{arith}
 use lib.ListN.{length}
-use Rattle.pairs.specs.Table.{pairsIn, EndsAt, Spans}
-use Rattle.pairs.proofs.Flat.{pairs-length}
-use Rattle.pairs.proofs.Linking.{link-gate, link-delay, link-next}
+use Rattle.netlist.specs.Netlist.{slopesBy}
+use Rattle.pairs.specs.Table.{pairsIn, Spans}
+use Rattle.pairs.proofs.Rails.{rail-up}
+use Rattle.pairs.proofs.Linking.{link-gate, link-next}
 use Rattle.pairs.proofs.Walking.{Walking, Here, walking-starts, walking-here, walking-ends}
 use Rattle.pairs.proofs.Spanning.{spans-none}
-use Rattle.pairs.proofs.Ending.{drives-above}
+use Rattle.pairs.proofs.Ending.{ended-later, drives-above}
 use Rattle.pairs.proofs.mark_asked.Statement.{statement}
 use Rattle.pairs.proofs.mark_asked.Tie as tie
 
 abbrev Inv-loop : tie.InvT-loop
-Inv-loop done file shape target heads links ends f top marks₀ span₀ at₀ marks span at =
-    (length marks ≡ length marks₀) × Walking (pairsIn done) file shape target f top links marks₀ marks at
+Inv-loop done file shape form falls target heads links ends f top marks₀ span₀ at₀ marks span at =
+    (length marks ≡ length marks₀) × Walking (pairsIn done) file shape (slopesBy form falls) target f top links marks₀ marks at
     × Spans top marks span
 
 abbrev μ-loop : tie.MeasureT-loop
-μ-loop done file shape target heads links ends f top marks₀ span₀ at₀ marks span at = at
+μ-loop done file shape form falls target heads links ends f top marks₀ span₀ at₀ marks span at = at
 
 -- the start, and the link of a turn
 abbrev start : tie.At-loop Inv-loop μ-loop → tie.Start Inv-loop μ-loop
-start c = c .before .before .before .before .before .before .before .before .before .before .before .before
+start c = c .before .before .before .before .before .before .before .before .before .before .before .before .before .before
 
 here : (c : tie.At-loop Inv-loop μ-loop) → 0 < c .loop .at →
     let given = start c .args in
-    Here (pairsIn (given .done .now)) (given .file .now) (given .shape) (given .target) (given .f) (given .top)
+    Here (pairsIn (given .done .now)) (given .file .now) (given .shape) (slopesBy (given .form) (given .falls .now)) (given .target) (given .f) (given .top)
     (given .links .now) (c .before .before .before .before .before .mark-output .last .1 .1 .1 .1 .1 .0)
     (c .loop .marks)
     (c .loop .at)
 here c h = walking-here (c .loop .inv .1) h
 
--- where the pairs of the link's gate begin, and those of the next
-ends : (c : tie.After-widen2 Inv-loop μ-loop) →
-    let given = start (c .before .before .before) .args in
-    let number = c .widen2 .result / 1024 % 512 in
-    (number < 448) × EndsAt (pairsIn (given .done .now)) (given .shape .inputs) (given .ends .now) number
-    × EndsAt (pairsIn (given .done .now)) (given .shape .inputs) (given .ends .now) (number + 1)
-ends c =
-    let at = c .before .before .before in
-    let given = start at .pre in
-    let now = here at (c .before .before .loop-test .taken) in
-    let above = drives-above (given .1) (now .drives) in
-    rw (link-gate (now .link) _ (c .widen2 .ensures .0)) (
-      omega (arith, given .1 .counts .gates-few),
-      given .7 .of (now .pin .0) (omega arith) (omega arith),
-      given .7 .of (now .pin .0 + 1) (omega arith) (omega arith),
-    )
+-- the link's gate and pin
+at-pin : (c : tie.At-loop Inv-loop μ-loop) (h : 0 < c .loop .at) → c .loop .at - 1 ≡ here c h .pin .1
+at-pin c h = omega (arith, here c h .link .pin)
 
 mark-output-requires : tie.Need-mark-output-requires Inv-loop μ-loop
 mark-output-requires c κs =
-    let given = c .before .before .before .before .before .before .pre in
-    (given .1, given .5, given .8, spans-none refl (given .8))
+    let given = c .before .before .before .before .before .before .before .before .pre in
+    (given .1, given .6, given .10, spans-none refl (given .10))
 
 mul-widen : tie.Need-mul-widen Inv-loop μ-loop
 mul-widen c = omega arith
 
 shared-slice-read-widen : tie.Need-shared-slice-read-widen Inv-loop μ-loop
 shared-slice-read-widen c =
-    let given = c .before .before .before .before .before .before .before .before .before .before .pre in
-    omega (arith, given .2, given .3)
+    let given = c .before .before .before .before .before .before .before .before .before .before .before .before .pre in
+    omega (arith, given .3, given .4)
 
 widen-requires : tie.Need-widen-requires Inv-loop μ-loop
 widen-requires c κs = tt
 
 loop-holds : tie.Need-loop-holds Inv-loop μ-loop
 loop-holds c =
-    let begun = c .before .before .before .before .before .before .before .before .before .before .before in
-    let low : begun .args .f < length (begun .args .heads .now) = omega (arith, begun .pre .2, begun .pre .3) in
-    let chain = begun .pre .6 .of (begun .args .f) low in
+    let begun = c .before .before .before .before .before .before .before .before .before .before .before .before .before in
+    let low : begun .args .f < length (begun .args .heads .now) = omega (arith, begun .pre .3, begun .pre .4) in
+    let chain = begun .pre .7 .of (begun .args .f) low in
     let output = c .before .before .before .before .mark-output in
-    (refl, walking-starts {n = 3584} (rw (c .widen .ensures .0) chain), output .ensures .1)
+    (refl, walking-starts {n = 2048} (rw (c .widen .ensures .0) chain), output .ensures .1)
 
 sub-widen : tie.Need-sub-widen Inv-loop μ-loop
 sub-widen c = omega arith
 
 mul-widen-2 : tie.Need-mul-widen-2 Inv-loop μ-loop
-mul-widen-2 c = omega (arith, here (c .before) (c .loop-test .taken) .link .within)
+mul-widen-2 c =
+    let now = here (c .before) (c .loop-test .taken) in
+    let holds = start (c .before) .pre .1 in
+    omega (arith, now .link .pin, drives-above holds (now .drives) .2, holds .counts .pins-few)
 
 shared-slice-read-widen-2 : tie.Need-shared-slice-read-widen-2 Inv-loop μ-loop
 shared-slice-read-widen-2 c = omega (arith, here (c .before .before) (c .before .loop-test .taken) .link .within)
@@ -85,46 +76,30 @@ shared-slice-read-widen-2 c = omega (arith, here (c .before .before) (c .before 
 widen-requires-2 : tie.Need-widen-requires-2 Inv-loop μ-loop
 widen-requires-2 c κs = tt
 
-begin-at-requires : tie.Need-begin-at-requires Inv-loop μ-loop
-begin-at-requires c κs =
-    let done = start (c .before .before .before) .args .done .now in
-    (omega (arith, ends c .0), omega (arith, ends c .1 .few, pairs-length done))
+sub-mark-link : tie.Need-sub-mark-link Inv-loop μ-loop
+sub-mark-link c = omega (arith, c .before .before .loop-test .taken)
 
-add-begin-at : tie.Need-add-begin-at Inv-loop μ-loop
-add-begin-at c = omega arith
-
-begin-at-requires-2 : tie.Need-begin-at-requires-2 Inv-loop μ-loop
-begin-at-requires-2 c κs =
+mark-link-requires : tie.Need-mark-link-requires Inv-loop μ-loop
+mark-link-requires c κs =
     let read = c .before in
-    let done = start (read .before .before .before) .args .done .now in
-    (omega (arith, ends read .0), omega (arith, ends read .2 .few, pairs-length done))
-
-add-mark-pin : tie.Need-add-mark-pin Inv-loop μ-loop
-add-mark-pin c =
-    let at = c .before .before .before .before .before .before in
-    omega (arith, start at .pre .1 .counts .inputs-few)
-
-mark-pin-requires : tie.Need-mark-pin-requires Inv-loop μ-loop
-mark-pin-requires c κs =
-    let next = c .before .before in
-    let first = next .before in
-    let read = first .before in
+    let test = read .before .before .loop-test .taken in
     let at = read .before .before .before in
     let given = start at .pre in
-    let e : start at .args .shape .inputs + read .widen2 .result / 1024 % 512 + 1
-    ≡ start at .args .shape .inputs + (read .widen2 .result / 1024 % 512 + 1) =
-    omega arith
-    in
-    let link = here at (read .before .before .loop-test .taken) .link in (
+    let now = here at test in
+    let above = drives-above (given .1) (now .drives) in
+    rw (link-gate (now .link) _ (read .widen2 .ensures .0), at-pin at test) (
       given .0,
-      rw (first .begin-at .ensures) (ends read .1 .from),
-      rw (next .begin-at2 .ensures, e) (ends read .2 .from),
-      omega (arith, ends read .0, given .1 .counts .inputs-few),
-      omega (arith, link-delay link _ (read .widen2 .ensures .0), link .delay-small),
-      given .4,
+      given .1,
+      given .2,
+      above .1,
+      above .2,
+      given .8,
+      ended-later _ (given .9) (rail-up (slopesBy (start at .args .form) (start at .args .falls .now)) (start at .args .f + 1)
+          (start at .args .shape .inputs + now .pin .0) (omega (arith, above .0))),
+      given .5,
       omega (
         arith,
-        given .5,
+        given .6,
         at .loop .inv .0,
         at .before .before .before .before .before .mark-output .kept .1 .1 .1
             .1 .1 .0,
@@ -134,20 +109,21 @@ mark-pin-requires c κs =
 
 loop-less : tie.Need-loop-less Inv-loop μ-loop
 loop-less c =
-    let read = c .before .before .before .before .before .before .before in
+    let read = c .before .before .before .before in
     let link = here (read .before .before .before) (read .before .before .loop-test .taken) .link in
     omega (arith, link-next link _ (read .widen2 .ensures .0), link .back)
 
 loop-again : tie.Need-loop-again Inv-loop μ-loop
 loop-again c =
-    let read = c .before .before .before .before .before .before .before in
+    let read = c .before .before .before .before in
+    let test = read .before .before .loop-test .taken in
     let at = read .before .before .before in
-    let now = here at (read .before .before .loop-test .taken) in
+    let now = here at test in
     let held = read .widen2 .ensures .0 in
-    let marked = c .before .before .mark-pin in (
-      omega (arith, at .loop .inv .0, marked .kept .1 .1 .1 .1 .1 .1 .0),
+    let marked = c .before .before .mark-link in (
+      omega (arith, at .loop .inv .0, marked .kept .1 .1 .1 .1 .1 .1 .1 .1 .1 .0),
       rw (link-next (now .link) _ held)
-          (now .walked _ (rw (link-gate (now .link) _ held, link-delay (now .link) _ held) at (marked .ensures .0))),
+          (now .walked _ (rw (link-gate (now .link) _ held, at-pin at test) at (marked .ensures .0))),
       marked .ensures .1,
     )
 
@@ -182,11 +158,8 @@ mark-asked-spec =
     mul-widen-2
     shared-slice-read-widen-2
     widen-requires-2
-    begin-at-requires
-    add-begin-at
-    begin-at-requires-2
-    add-mark-pin
-    mark-pin-requires
+    sub-mark-link
+    mark-link-requires
     loop-less
     loop-again
     same-length

@@ -30,8 +30,8 @@ returns : tie.Need-returns
 returns c =
     let afterZeros = c .before .before .before .before .before .before in
     let afterNodes = afterZeros .before .before .before .before .before .before .before .before in
-    let s = afterNodes .before .before .before .before .before .before .before .before .before in
-    L.settled-is (s .pre .0) (s .pre .1) (afterNodes .settle-nodes .ensures) _ _ _
+    let s = afterNodes .before .before .before .before .before .before .before .before .before .before in
+    L.settled-is (s .pre .0) (s .pre .1) (s .pre .2) (afterNodes .settle-nodes .ensures) _ _ _
     (afterZeros .before .before .latest-output .ensures)
     (afterZeros .zero-rest-u8 .ensures)
     (c .before .before .zero-rest-u32 .ensures)

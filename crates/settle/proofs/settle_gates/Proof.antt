@@ -5,13 +5,14 @@ use Prim.Native.Nat.{_+_, _-_, _<_}
 use native.Mathlib.Omega.{arith}
 use lib.ListN.{length}
 use lib.Seq.{length-take-le}
+use Rattle.netlist.specs.Netlist.{alike}
 use Rattle.settle.proofs.Gates as L
 use Rattle.settle.proofs.settle_gates.Statement.{statement}
 use Rattle.settle.proofs.settle_gates.Tie as tie
 
 abbrev Inv-loop : tie.InvT-loop
 Inv-loop file shape values₀ times₀ inputs gates number₀ values times number =
-    L.Gating file shape values₀ times₀ values times number
+    L.Gating file shape alike values₀ times₀ values times number
 
 abbrev μ-loop : tie.MeasureT-loop
 μ-loop file shape values₀ times₀ inputs gates number₀ values times number = gates - number
@@ -24,12 +25,12 @@ within : (c : tie.In-loop Inv-loop μ-loop) →
     < length (c .before .loop .times))
 within c =
     let s = c .before .before .before .before .before in (
-      omega (arith, L.gating-values (s .pre .0) (s .pre .1) (c .before .loop .inv), s .pre .1 .values-room),
-      omega (arith, L.gating-times (s .pre .0) (s .pre .1) (c .before .loop .inv), s .pre .1 .times-room),
+      omega (arith, L.gating-values (s .pre .0) (s .pre .1) alike tt (c .before .loop .inv), s .pre .1 .values-room),
+      omega (arith, L.gating-times (s .pre .0) (s .pre .1) alike tt (c .before .loop .inv), s .pre .1 .times-room),
     )
 
 loop-holds : tie.Need-loop-holds Inv-loop μ-loop
-loop-holds c = L.gating-starts (c .before .before .before .pre .0) (c .before .before .before .pre .1)
+loop-holds c = L.gating-starts (c .before .before .before .pre .0) (c .before .before .before .pre .1) alike tt
 
 add-node : tie.Need-add-node Inv-loop μ-loop
 add-node c =
@@ -57,8 +58,8 @@ gate-signal-requires c κs =
     let inv = c .before .before .before .before .loop .inv in
     let test = c .before .before .before .loop-test .taken in
     let gate = c .before .before .gate-at in (
-      L.gating-wired (s .pre .0) (s .pre .1) inv test (gate .result) (gate .ensures .0),
-      L.gating-takes (s .pre .0) (s .pre .1) inv test (gate .result) (gate .ensures .0),
+      L.gating-wired (s .pre .0) (s .pre .1) alike tt inv test (gate .result) (gate .ensures .0),
+      L.gating-takes (s .pre .0) (s .pre .1) alike tt inv test (gate .result) (gate .ensures .0),
     )
 
 stored-requires : tie.Need-stored-requires Inv-loop μ-loop
@@ -85,7 +86,7 @@ loop-again : tie.Need-loop-again Inv-loop μ-loop
 loop-again c =
     let s = c .before .before .before .before .before .before .before .before .before .before in
     let gate = c .before .before .before .before .gate-at in
-    L.gating-more (s .pre .0) (s .pre .1) (c .before .before .before .before .before .before .loop .inv)
+    L.gating-more (s .pre .0) (s .pre .1) alike tt (c .before .before .before .before .before .before .loop .inv)
     (c .before .before .before .before .before .loop-test .taken)
     (gate .result)
     (gate .ensures .0)
@@ -97,17 +98,17 @@ loop-again c =
 same-length : tie.Need-same-length Inv-loop μ-loop
 same-length c =
     let s = c .before .before .before .before .before in
-    L.gating-values (s .pre .0) (s .pre .1) (c .before .loop .inv)
+    L.gating-values (s .pre .0) (s .pre .1) alike tt (c .before .loop .inv)
 
 same-length-2 : tie.Need-same-length-2 Inv-loop μ-loop
 same-length-2 c =
     let s = c .before .before .before .before .before in
-    L.gating-times (s .pre .0) (s .pre .1) (c .before .loop .inv)
+    L.gating-times (s .pre .0) (s .pre .1) alike tt (c .before .loop .inv)
 
 returns : tie.Need-returns Inv-loop μ-loop
 returns c =
     let s = c .before .before .before .before .before in
-    L.gating-ends (s .pre .0) (s .pre .1) (c .before .loop .inv) (c .loop-test .left)
+    L.gating-ends (s .pre .0) (s .pre .1) alike tt (c .before .loop .inv) (c .loop-test .left)
 
 pub settle-gates-spec : {M : Type 1} → statement M
 settle-gates-spec =

@@ -11,13 +11,13 @@ use Rattle.settle.proofs.simple_signal.Tie as tie
 
 abbrev Inv-loop : tie.InvT-loop
 Inv-loop file shape first count c k values times scan₀ left₀ scan left =
-    L.Scanning file shape first count values times c scan left
+    L.Scanning (λ p. p) file shape first count values times c scan left
 
 abbrev μ-loop : tie.MeasureT-loop
 μ-loop file shape first count c k values times scan₀ left₀ scan left = left
 
 loop-holds : tie.Need-loop-holds Inv-loop μ-loop
-loop-holds c = L.scanning-starts _ _ _ _ _ _ _
+loop-holds c = L.scanning-starts _ _ _ _ _ _ _ _
 
 sub-left : tie.Need-sub-left Inv-loop μ-loop
 sub-left c = c .loop-test .taken
@@ -47,14 +47,14 @@ loop-again c =
 returns : tie.Need-returns Inv-loop μ-loop
 returns c =
     let s = c .before .before .before .before .before .before in
-    let e = L.scanning-ends (c .before .before .loop .inv) (c .before .loop-test .left) in
+    let e = L.scanned (c .before .before .loop .inv) (c .before .loop-test .left) in
     ap (λ (x : Scan). record { value = s .args .k; at = x .first }) e
     ∙ L.scan-controlled _ _ _ _ _ (sym (ap (λ (x : Scan). x .some) e) ∙ c .if1 .taken)
 
 returns-2 : tie.Need-returns-2 Inv-loop μ-loop
 returns-2 c =
     let s = c .before .before .before .before .before .before in
-    let e = L.scanning-ends (c .before .before .loop .inv) (c .before .loop-test .left) in
+    let e = L.scanned (c .before .before .loop .inv) (c .before .loop-test .left) in
     ap (λ (x : Scan). record { value = not (s .args .k); at = x .last }) e
     ∙ L.scan-free _ _ _ _ _ (sym (ap (λ (x : Scan). x .some) e) ∙ c .if1 .left)
 

@@ -1,10 +1,11 @@
--- `settle::evaluate_accepted` meets its contract: the checks decide between a refusal and the settled nodes.
+-- `settle::evaluate_given` meets its contract: the checks decide between a refusal and the settled nodes.
 -- Assumes nothing.
 use borrow.Author.Needs.{needs}
 use lib.ListN.{length}
+use Rattle.netlist.specs.Netlist.{slopesBy}
 use Rattle.settle.proofs.Checks as L
-use Rattle.settle.proofs.evaluate_accepted.Statement.{statement}
-use Rattle.settle.proofs.evaluate_accepted.Tie as tie
+use Rattle.settle.proofs.evaluate_given.Statement.{statement}
+use Rattle.settle.proofs.evaluate_given.Tie as tie
 
 add-nodes : tie.Need-add-nodes
 add-nodes c = search needs
@@ -19,8 +20,9 @@ settle-all-requires : tie.Need-settle-all-requires
 settle-all-requires c κs =
     let told = c .before .before in
     let check = told .before .before in
-    let s = check .before .before .before .before .before .before .before in (
-      s .pre,
+    let s = check .before .before .before .before .before .before .before .before in (
+      s .pre .0,
+      s .pre .1,
       L.usable (s .args .shape) (s .args .vector .now) (length (s .args .values .now)) (length (s .args .times .now))
           (check .check-given .ensures) (told .enum-told .given .1),
     )
@@ -42,9 +44,10 @@ returns c =
     let settle = c .before .before .before .before in
     let told = settle .before .before .before in
     let check = told .before .before in
-    let s = check .before .before .before .before .before .before .before in
+    let s = check .before .before .before .before .before .before .before .before in
     rw (
-      L.by-checks (s .args .file .now) (s .args .shape) (s .args .arrivals .now) (s .args .vector .now)
+      L.by-checks (s .args .file .now) (s .args .shape) (s .args .arrivals .now)
+          (slopesBy (s .args .form) (s .args .falls .now)) (s .args .vector .now)
           (length (s .args .values .now)) (length (s .args .times .now)) (check .check-given .ensures),
       told .enum-told .given .1,
     )
@@ -61,16 +64,17 @@ returns-2 c =
     let refuse = c .before .before .before .before in
     let known = refuse .before .before .before .before in
     let check = known .before .before in
-    let s = check .before .before .before .before .before .before .before in
+    let s = check .before .before .before .before .before .before .before .before in
     rw (
-      L.by-checks (s .args .file .now) (s .args .shape) (s .args .arrivals .now) (s .args .vector .now)
+      L.by-checks (s .args .file .now) (s .args .shape) (s .args .arrivals .now)
+          (slopesBy (s .args .form) (s .args .falls .now)) (s .args .vector .now)
           (length (s .args .values .now)) (length (s .args .times .now)) (check .check-given .ensures),
       known .given .given .1,
     )
     (refuse .refuse .ensures)
 
-pub evaluate-accepted-spec : {M : Type 1} → statement M
-evaluate-accepted-spec =
+pub evaluate-given-spec : {M : Type 1} → statement M
+evaluate-given-spec =
     tie.close
     (tie.spec
     add-nodes
