@@ -1,8 +1,9 @@
-/* The library's twin in plain C: the same four functions, each as fast as plain C has them, for comparison of speed and
- * as a stand-in for the library while the tests are tried.
+/* The library's twin in plain C: the same functions, each as fast as plain C has them, for comparison of speed and as a
+ * stand-in for the library while the tests are tried.
  *
- * Written from docs/RULES.md alone. The functions are named twin_evaluate, twin_build, twin_check and twin_judge, so
- * that they can be linked beside the library; -DPREFIX=buzzlumen_ gives them the library's names instead.
+ * Written from docs/RULES.md alone. The functions are named twin_evaluate, twin_build, twin_check and twin_judge, for
+ * rise and fall apart twin_evaluate_rise_fall, twin_build_rise_fall and twin_judge_rise_fall, so that they can be
+ * linked beside the library; -DPREFIX=buzzlumen_ gives them the library's names instead.
  * Pairs are found by marking the wanted times of one node after the other, from the highest down, and are written with
  * a place in each driver's pairs that only moves on; unit propagation runs over both lists in list order, assigning as
  * it goes, until a pass assigns nothing.
@@ -21,6 +22,7 @@
 enum { BUF = 1, NOT, AND, NAND, OR, NOR, XOR, XNOR, MUX };
 enum { TRAILER = 14, MOST_NODES = 512, MOST_DELAY = 999, MOST_PAIRS = 65536, MOST_VARIABLES = 100000 };
 enum { MOST_INPUTS = 64, MOST_GATES = 448, MOST_PINS = 2048, MOST_OUTPUTS = 64, MOST_ARRIVAL = 9999 };
+enum { FALL = 19 };
 
 /* A refusal, or number 0. */
 typedef struct {
@@ -668,6 +670,381 @@ static refusal build_opened(const netlist *n, uint32_t target, uint32_t *pairs, 
     return none;
 }
 
+/* Rise and fall apart: each pin has a second delay, for a gate that ends at 0. The netlist's own is for one that ends
+ * at 1. A node's two rails, late with value 0 and late with value 1, hold the same times, because whatever asks for one
+ * of them asks for the other: the times are found and searched once, and rail 1 lies directly behind rail 0.
+ */
+
+static refusal check_falls(const netlist *n, const uint32_t *falls, size_t length)
+{
+    if (length != n->pin_count)
+        return refuse(FALL, n->pin_count);
+    for (size_t i = 0; i < length; i++)
+        if (falls[i] > MOST_DELAY)
+            return refuse(FALL, i);
+    return none;
+}
+
+/* Checks 1 to 7, 16, then 19. */
+static refusal open_apart(netlist *n, const uint8_t *data, size_t length, const uint32_t *arrivals,
+                          size_t arrivals_length, const uint32_t *falls, size_t falls_length)
+{
+    refusal r = open_netlist(n, data, length, arrivals, arrivals_length);
+    return r.number == 0 ? check_falls(n, falls, falls_length) : r;
+}
+
+static uint32_t delay_for(const netlist *n, const uint32_t *falls, uint32_t pin, uint32_t value)
+{
+    return value ? delay_at(n, pin) : falls[pin];
+}
+
+/* A simple gate in one pass: a controlling pin counts with the delay for k, any with the one for the other value. */
+static void settle_simple_apart(const netlist *n, const uint32_t *falls, gate it, uint32_t node, uint8_t *values,
+                                uint32_t *times)
+{
+    uint32_t c = controlling(it.kind), k = forced(it.kind);
+    uint32_t first = UINT32_MAX, last = 0;
+    for (uint32_t p = it.first; p < it.first + it.count; p++) {
+        uint32_t driver = driver_at(n, p);
+        if (values[driver] == c) {
+            uint32_t ready = times[driver] + delay_for(n, falls, p, k);
+            if (ready < first)
+                first = ready;
+        } else {
+            uint32_t ready = times[driver] + delay_for(n, falls, p, 1 - k);
+            if (ready > last)
+                last = ready;
+        }
+    }
+    values[node] = (uint8_t)(first != UINT32_MAX ? k : 1 - k);
+    times[node] = first != UINT32_MAX ? first : last;
+}
+
+static void settle_parity_apart(const netlist *n, const uint32_t *falls, gate it, uint32_t node, uint8_t *values,
+                                uint32_t *times)
+{
+    uint32_t first = driver_at(n, it.first), second = driver_at(n, it.first + 1);
+    uint32_t value = values[first] ^ values[second] ^ (it.kind == XNOR);
+    values[node] = (uint8_t)value;
+    times[node] = later(times[first] + delay_for(n, falls, it.first, value),
+                        times[second] + delay_for(n, falls, it.first + 1, value));
+}
+
+static void settle_mux_apart(const netlist *n, const uint32_t *falls, gate it, uint32_t node, uint8_t *values,
+                             uint32_t *times)
+{
+    uint32_t driver = driver_at(n, it.first);
+    uint32_t chosen = it.first + 1 + values[driver], other = it.first + 2 - values[driver];
+    uint32_t from = driver_at(n, chosen), beside = driver_at(n, other), value = values[from];
+    uint32_t select = times[driver] + delay_for(n, falls, it.first, value);
+    uint32_t ready = times[from] + delay_for(n, falls, chosen, value);
+    values[node] = (uint8_t)value;
+    if (value == values[beside]) {
+        uint32_t agreed = times[beside] + delay_for(n, falls, other, value);
+        if (agreed < select)
+            select = agreed;
+    }
+    times[node] = later(select, ready);
+}
+
+static uint32_t settle_apart(const netlist *n, const uint32_t *falls, const uint8_t *vector, uint8_t *values,
+                             uint32_t *times)
+{
+    memcpy(values, vector, n->inputs);
+    memcpy(times, n->arrivals, n->inputs * sizeof *times);
+    for (uint32_t g = 0; g < n->gate_count; g++) {
+        gate it = gate_at(n, g);
+        if (is_simple(it.kind))
+            settle_simple_apart(n, falls, it, n->inputs + g, values, times);
+        else if (it.kind == MUX)
+            settle_mux_apart(n, falls, it, n->inputs + g, values, times);
+        else
+            settle_parity_apart(n, falls, it, n->inputs + g, values, times);
+    }
+    uint32_t last = 0;
+    for (uint32_t q = 0; q < n->output_count; q++)
+        if (times[output_at(n, q)] > last)
+            last = times[output_at(n, q)];
+    return last;
+}
+
+static void find_tops_apart(const netlist *n, const uint32_t *falls, uint32_t *tops)
+{
+    memcpy(tops, n->arrivals, n->inputs * sizeof *tops);
+    for (uint32_t g = 0; g < n->gate_count; g++) {
+        gate it = gate_at(n, g);
+        uint32_t top = 0;
+        for (uint32_t p = it.first; p < it.first + it.count; p++)
+            top = later(top, tops[driver_at(n, p)] + later(delay_at(n, p), falls[p]));
+        tops[n->inputs + g] = top;
+    }
+}
+
+/* Mark what one pin of a gate wants of its driver, for one of the gate's values: the times of that rail less the delay,
+ * where they are 1 to the driver's top. */
+static void mark_by_rail(wanted *w, const uint32_t *rail, size_t count, uint32_t delay, uint32_t top)
+{
+    while (count > 0 && rail[2] <= delay) {
+        rail += 3;
+        count--;
+    }
+    while (count > 0 && rail[3 * count - 1] - delay > top)
+        count--;
+    if (count == 0)
+        return;
+    mark(w, rail[2] - delay);
+    mark(w, rail[3 * count - 1] - delay);
+    for (size_t i = 1; i + 1 < count; i++) {
+        uint32_t t = rail[3 * i + 2] - delay;
+        w->marks[t / WORD] |= (uint64_t)1 << t % WORD;
+    }
+}
+
+/* Put the wanted times before place `at` of the table as rail 1, and take their marks away; then the same times before
+ * them as rail 0. The place of the first, or SIZE_MAX where the table has no room. */
+static size_t put_rails(wanted *w, uint32_t *table, size_t at, uint32_t node)
+{
+    size_t end = at;
+    for (size_t word = w->most / WORD + 1; word-- > w->least / WORD;) {
+        uint64_t marks = w->marks[word];
+        w->marks[word] = 0;
+        while (marks != 0) {
+            uint32_t bit = WORD - 1 - (uint32_t)__builtin_clzll(marks);
+            marks ^= (uint64_t)1 << bit;
+            if (at == 0)
+                return SIZE_MAX;
+            at--;
+            table[3 * at] = node;
+            table[3 * at + 1] = 1;
+            table[3 * at + 2] = (uint32_t)word * WORD + bit;
+        }
+    }
+    size_t count = end - at;
+    if (at < count)
+        return SIZE_MAX;
+    uint32_t *rail = table + 3 * (at - count);
+    for (size_t i = 0; i < count; i++) {
+        rail[3 * i] = node;
+        rail[3 * i + 1] = 0;
+        rail[3 * i + 2] = rail[3 * (count + i) + 2];
+    }
+    return at - count;
+}
+
+/* As find_pairs does. */
+static size_t find_rails(lateness *l, const uint32_t *falls, uint32_t *table, size_t length)
+{
+    const netlist *n = l->n;
+    readers r;
+    wanted w;
+    uint8_t is_output[MOST_NODES] = {0};
+    uint32_t highest = 0;
+    for (uint32_t node = 0; node < nodes_of(n); node++)
+        highest = later(highest, l->tops[node]);
+    memset(w.marks, 0, (highest / WORD + 1) * sizeof *w.marks);
+    for (uint32_t q = 0; q < n->output_count; q++)
+        is_output[output_at(n, q)] = 1;
+    find_readers(n, &r);
+    size_t capacity = length / 3 < MOST_PAIRS ? length / 3 : MOST_PAIRS;
+    size_t at = capacity;
+    memset(l->starts, 0, n->inputs * sizeof *l->starts);
+    l->starts[nodes_of(n)] = at;
+    for (uint32_t node = nodes_of(n); node-- > n->inputs;) {
+        w.least = UINT32_MAX;
+        w.most = 0;
+        if (is_output[node] && l->target > 0 && l->target <= l->tops[node])
+            mark(&w, l->target);
+        for (uint32_t p = r.first[node]; p != NO_PIN; p = r.next[p]) {
+            const size_t *of = l->starts + r.node[p];
+            const uint32_t *rail = table + 3 * of[0];
+            size_t count = (of[1] - of[0]) / 2;
+            mark_by_rail(&w, rail, count, falls[p], l->tops[node]);
+            if (delay_at(n, p) != falls[p])
+                mark_by_rail(&w, rail, count, delay_at(n, p), l->tops[node]);
+        }
+        if (w.most > 0)
+            at = put_rails(&w, table, at, node);
+        if (at == SIZE_MAX)
+            return SIZE_MAX;
+        l->starts[node] = at;
+    }
+    size_t count = capacity - at;
+    memmove(table, table + 3 * at, 3 * count * sizeof *table);
+    memset(table + 3 * count, 0, (length - 3 * count) * sizeof *table);
+    for (uint32_t node = n->inputs; node <= nodes_of(n); node++)
+        l->starts[node] -= at;
+    return count;
+}
+
+/* As place_after, in a table of three numbers a pair. */
+static size_t rail_after(const uint32_t *table, size_t at, size_t end, uint32_t t)
+{
+    size_t step = 1;
+    while (at + step < end && table[3 * (at + step) + 2] < t) {
+        at += step;
+        step *= 2;
+    }
+    size_t high = at + step < end ? at + step : end;
+    while (at + 1 < high) {
+        size_t middle = at + (high - at) / 2;
+        if (table[3 * middle + 2] < t)
+            at = middle;
+        else
+            high = middle;
+    }
+    return high;
+}
+
+/* A pin whose driver's pairs are those of rail 0; `beside` is how far behind them those of rail 1 lie. */
+typedef struct {
+    pin rail;
+    int32_t beside;
+} pin_apart;
+
+static pin_apart pin_apart_of(const lateness *l, uint32_t driver, uint32_t delay)
+{
+    pin_apart it = {pin_of(l, driver, delay), 0};
+    it.beside = driver < l->n->inputs ? 0 : (int32_t)((it.rail.end - it.rail.next) / 2);
+    it.rail.end = it.rail.next + (size_t)it.beside;
+    return it;
+}
+
+/* "Driver late at t less the delay with value 0" as late has it; with value 1 the literal is `beside` more. */
+static int32_t late_apart(const lateness *l, const uint32_t *table, pin *p, uint32_t t)
+{
+    if (t <= p->surely)
+        return IS_LATE;
+    if (t - p->delay > l->tops[p->driver])
+        return NOT_LATE;
+    if (table[3 * p->next + 2] < t - p->delay)
+        p->next++;
+    if (table[3 * p->next + 2] < t - p->delay)
+        p->next = rail_after(table, p->next, p->end, t - p->delay);
+    return (int32_t)(nodes_of(l->n) + 1 + p->next);
+}
+
+/* "Driver late", value 0 and then value 1, where it is open. */
+static void put_late(writer *w, const pin_apart *p)
+{
+    if (p->rail.late != NOT_LATE) {
+        put(w, p->rail.late);
+        put(w, p->rail.late + p->beside);
+    }
+}
+
+static void write_cube_apart(writer *w, int32_t variable, const pin_apart *one, uint32_t x, const pin_apart *other,
+                             uint32_t y)
+{
+    if (one->rail.late == IS_LATE || other->rail.late == IS_LATE)
+        return;
+    put(w, -variable);
+    put_late(w, one);
+    put(w, node_is(one->rail.driver, 1 - x));
+    put_late(w, other);
+    put(w, node_is(other->rail.driver, 1 - y));
+    end_clause(w);
+}
+
+/* The clauses of a pair: "-p, gate is v", then as write_pair. */
+static void write_pair_apart(writer *w, gate it, const pin_apart *pins, int32_t variable, int32_t gate_is,
+                             int some_surely)
+{
+    put(w, -variable);
+    put(w, gate_is);
+    end_clause(w);
+    if (!some_surely) {
+        put(w, -variable);
+        for (uint32_t i = 0; i < it.count; i++)
+            put_late(w, pins + i);
+        end_clause(w);
+    }
+    if (it.kind == MUX) {
+        for (uint32_t s = 0; s < 2; s++)
+            for (uint32_t value = 0; value < 2; value++)
+                write_cube_apart(w, variable, pins, s, pins + 1 + s, value);
+        for (uint32_t value = 0; value < 2; value++)
+            write_cube_apart(w, variable, pins + 1, value, pins + 2, value);
+    }
+    if (!is_simple(it.kind))
+        return;
+    uint32_t not_c = 1 - controlling(it.kind);
+    for (uint32_t i = 0; i < it.count; i++) {
+        if (pins[i].rail.late == IS_LATE)
+            continue;
+        put(w, -variable);
+        put_late(w, pins + i);
+        put(w, node_is(pins[i].rail.driver, not_c));
+        end_clause(w);
+    }
+}
+
+/* The clauses of all pairs of one gate: rail 0 with the fall delays, then rail 1 with the netlist's own. */
+static void write_rails(writer *w, const lateness *l, const uint32_t *falls, const uint32_t *table, uint32_t g)
+{
+    const netlist *n = l->n;
+    gate it = gate_at(n, g);
+    size_t start = l->starts[n->inputs + g], count = (l->starts[n->inputs + g + 1] - start) / 2;
+    if (count == 0)
+        return;
+    for (uint32_t value = 0; value < 2; value++) {
+        pin_apart pins[8];
+        for (uint32_t i = 0; i < it.count; i++)
+            pins[i] = pin_apart_of(l, driver_at(n, it.first + i), delay_for(n, falls, it.first + i, value));
+        int32_t gate_is = node_is(n->inputs + g, value);
+        for (size_t k = start + value * count; k < start + (1 + value) * count; k++) {
+            int some_surely = 0;
+            for (uint32_t i = 0; i < it.count; i++) {
+                pins[i].rail.late = late_apart(l, table, &pins[i].rail, table[3 * k + 2]);
+                some_surely |= pins[i].rail.late == IS_LATE;
+            }
+            write_pair_apart(w, it, pins, (int32_t)(nodes_of(n) + 1 + k), gate_is, some_surely);
+        }
+    }
+}
+
+static void write_formula_apart(writer *w, const lateness *l, const uint32_t *falls, const uint32_t *table)
+{
+    const netlist *n = l->n;
+    for (uint32_t g = 0; g < n->gate_count; g++)
+        write_gate(w, n, g);
+    for (uint32_t g = 0; g < n->gate_count; g++)
+        write_rails(w, l, falls, table, g);
+    size_t before = w->numbers;
+    for (uint32_t q = 0; q < n->output_count; q++) {
+        pin_apart it = pin_apart_of(l, output_at(n, q), 0);
+        it.rail.late = late_apart(l, table, &it.rail, l->target);
+        if (it.rail.late == IS_LATE) {
+            w->numbers = before;
+            return;
+        }
+        put_late(w, &it);
+    }
+    end_clause(w);
+}
+
+/* Check 10, then 9 for the formula, as build_opened. */
+static refusal build_apart(const netlist *n, const uint32_t *falls, uint32_t target, uint32_t *pairs,
+                           size_t pairs_length, int32_t *formula, size_t formula_length, buzzlumen_built *built)
+{
+    lateness l;
+    l.n = n;
+    l.target = target;
+    find_tops_apart(n, falls, l.tops);
+    size_t count = find_rails(&l, falls, pairs, pairs_length);
+    if (count == SIZE_MAX)
+        return refuse(BUZZLUMEN_PAIRS, 0);
+    writer w = {formula, formula_length, 0, 0};
+    write_formula_apart(&w, &l, falls, pairs);
+    if (w.numbers > formula_length)
+        return refuse(BUZZLUMEN_ROOM, w.numbers);
+    memset(formula + w.numbers, 0, (formula_length - w.numbers) * sizeof *formula);
+    built->variables = (uint32_t)(nodes_of(n) + count);
+    built->clauses = w.clauses;
+    built->numbers = w.numbers;
+    built->pairs = count;
+    return none;
+}
+
 /* Unit propagation. */
 
 enum { FREE = 0, IS_TRUE = 1, IS_FALSE = 2 };
@@ -815,9 +1192,10 @@ static refusal check_refutation(uint32_t variables, const int32_t *formula, size
     return check_steps(variables, formula, formula_length, refutation, refutation_length, propagation);
 }
 
-/* Checks 8, 9 for values, 9 for times; then settles. */
-static refusal evaluate_opened(const netlist *n, const uint8_t *vector, size_t vector_length, uint8_t *values,
-                               size_t values_length, uint32_t *times, size_t times_length, uint32_t *time)
+/* Checks 8, 9 for values, 9 for times; then settles, with falls where there are some. */
+static refusal evaluate_opened(const netlist *n, const uint32_t *falls, const uint8_t *vector, size_t vector_length,
+                               uint8_t *values, size_t values_length, uint32_t *times, size_t times_length,
+                               uint32_t *time)
 {
     uint32_t nodes = nodes_of(n);
     refusal r = check_vector(n, vector, vector_length);
@@ -825,13 +1203,13 @@ static refusal evaluate_opened(const netlist *n, const uint8_t *vector, size_t v
         return r;
     if (values_length < nodes || times_length < nodes)
         return refuse(BUZZLUMEN_ROOM, nodes);
-    *time = settle(n, vector, values, times);
+    *time = falls != NULL ? settle_apart(n, falls, vector, values, times) : settle(n, vector, values, times);
     memset(values + nodes, 0, values_length - nodes);
     memset(times + nodes, 0, (times_length - nodes) * sizeof *times);
     return none;
 }
 
-/* The four functions. */
+/* The functions. */
 
 buzzlumen_evaluated NAMED(evaluate)(const uint8_t *netlist_bytes, size_t netlist_length,
                                     const uint32_t *arrivals, size_t arrivals_length,
@@ -843,7 +1221,7 @@ buzzlumen_evaluated NAMED(evaluate)(const uint8_t *netlist_bytes, size_t netlist
     uint32_t time = 0;
     refusal r = open_netlist(&n, netlist_bytes, netlist_length, arrivals, arrivals_length);
     if (r.number == 0)
-        r = evaluate_opened(&n, vector, vector_length, values, values_length, times, times_length, &time);
+        r = evaluate_opened(&n, NULL, vector, vector_length, values, values_length, times, times_length, &time);
     if (r.number != 0) {
         memset(values, 0, values_length);
         memset(times, 0, times_length * sizeof *times);
@@ -903,11 +1281,91 @@ buzzlumen_judged NAMED(judge)(const uint8_t *netlist_bytes, size_t netlist_lengt
     buzzlumen_built built = {0, 0, 0, 0, 0, 0};
     refusal r = open_netlist(&n, netlist_bytes, netlist_length, arrivals, arrivals_length);
     if (r.number == 0)
-        r = evaluate_opened(&n, vector, vector_length, values, values_length, times, times_length, &time);
+        r = evaluate_opened(&n, NULL, vector, vector_length, values, values_length, times, times_length, &time);
     if (r.number == 0 && time != delay)
         r = refuse(BUZZLUMEN_WITNESS, time);
     if (r.number == 0)
         r = build_opened(&n, delay + 1, pairs, pairs_length, formula, formula_length, &built);
+    if (r.number == 0)
+        r = check_refutation(built.variables, formula, built.numbers, refutation, refutation_length,
+                             propagation, propagation_length);
+    if (r.number != 0) {
+        memset(values, 0, values_length);
+        memset(times, 0, times_length * sizeof *times);
+        memset(pairs, 0, pairs_length * sizeof *pairs);
+        memset(formula, 0, formula_length * sizeof *formula);
+    }
+    memset(propagation, 0, propagation_length);
+    buzzlumen_judged answer = {r.number, r.place};
+    return answer;
+}
+
+/* And for rise and fall apart. */
+
+buzzlumen_evaluated NAMED(evaluate_rise_fall)(const uint8_t *netlist_bytes, size_t netlist_length,
+                                              const uint32_t *arrivals, size_t arrivals_length,
+                                              const uint32_t *falls, size_t falls_length,
+                                              const uint8_t *vector, size_t vector_length,
+                                              uint8_t *values, size_t values_length,
+                                              uint32_t *times, size_t times_length)
+{
+    netlist n;
+    uint32_t time = 0;
+    refusal r = open_apart(&n, netlist_bytes, netlist_length, arrivals, arrivals_length, falls, falls_length);
+    if (r.number == 0)
+        r = evaluate_opened(&n, falls, vector, vector_length, values, values_length, times, times_length, &time);
+    if (r.number != 0) {
+        memset(values, 0, values_length);
+        memset(times, 0, times_length * sizeof *times);
+        time = 0;
+    }
+    buzzlumen_evaluated answer = {r.number, time, r.place};
+    return answer;
+}
+
+buzzlumen_built NAMED(build_rise_fall)(const uint8_t *netlist_bytes, size_t netlist_length,
+                                       const uint32_t *arrivals, size_t arrivals_length,
+                                       const uint32_t *falls, size_t falls_length,
+                                       uint32_t target,
+                                       uint32_t *pairs, size_t pairs_length,
+                                       int32_t *formula, size_t formula_length)
+{
+    netlist n;
+    buzzlumen_built answer = {0, 0, 0, 0, 0, 0};
+    refusal r = open_apart(&n, netlist_bytes, netlist_length, arrivals, arrivals_length, falls, falls_length);
+    if (r.number == 0)
+        r = build_apart(&n, falls, target, pairs, pairs_length, formula, formula_length, &answer);
+    if (r.number != 0) {
+        memset(pairs, 0, pairs_length * sizeof *pairs);
+        memset(formula, 0, formula_length * sizeof *formula);
+    }
+    answer.number = r.number;
+    answer.place = r.place;
+    return answer;
+}
+
+buzzlumen_judged NAMED(judge_rise_fall)(const uint8_t *netlist_bytes, size_t netlist_length,
+                                        const uint32_t *arrivals, size_t arrivals_length,
+                                        const uint32_t *falls, size_t falls_length,
+                                        uint32_t delay,
+                                        const uint8_t *vector, size_t vector_length,
+                                        const int32_t *refutation, size_t refutation_length,
+                                        uint8_t *values, size_t values_length,
+                                        uint32_t *times, size_t times_length,
+                                        uint32_t *pairs, size_t pairs_length,
+                                        int32_t *formula, size_t formula_length,
+                                        uint8_t *propagation, size_t propagation_length)
+{
+    netlist n;
+    uint32_t time = 0;
+    buzzlumen_built built = {0, 0, 0, 0, 0, 0};
+    refusal r = open_apart(&n, netlist_bytes, netlist_length, arrivals, arrivals_length, falls, falls_length);
+    if (r.number == 0)
+        r = evaluate_opened(&n, falls, vector, vector_length, values, values_length, times, times_length, &time);
+    if (r.number == 0 && time != delay)
+        r = refuse(BUZZLUMEN_WITNESS, time);
+    if (r.number == 0)
+        r = build_apart(&n, falls, delay + 1, pairs, pairs_length, formula, formula_length, &built);
     if (r.number == 0)
         r = check_refutation(built.variables, formula, built.numbers, refutation, refutation_length,
                              propagation, propagation_length);

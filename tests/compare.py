@@ -6,6 +6,10 @@
     --workers NUMBER                            how many run at once; as many as there are cores if not given
     --valgrind                                  the host under valgrind, each slice in a block of just its length; only
                                                 where the machine is x86-64
+    --rise-fall                                 only the calls for rise and fall apart
+
+Where the archive has the calls for rise and fall apart, those of tests/rise_fall_cases.py are made too, two for each
+five of the others.
 
 A C host (tests/host.c) makes the calls of tests/cases.py. What each must give is worked out by tests/document.py; a
 share of the cases also by the other methods of tests/methods.py; two SAT solvers serve as peers. The last line says how
@@ -23,8 +27,9 @@ from collections import Counter
 import cases
 import document
 import methods
+import rise_fall_cases
 import tools
-from calls import FUNCTIONS, Host, compare_call
+from calls import APART, FUNCTIONS, Host, compare_call, plain
 from document import Built, Passes, Refused, Settled, node_count
 
 SHOWN_DIFFERENCES = 5
@@ -35,27 +40,34 @@ SHOWN_DIFFERENCES = 5
 
 def second_opinion(call, answer, slices):
     """What another method has against an answer, in words; nothing where it agrees or cannot say."""
-    if call.function == "evaluate" and isinstance(answer, Settled):
-        return second_settling(call.arguments, answer, slices)
-    if call.function == "build" and isinstance(answer, Built) and answer.pairs < 5000:
-        return second_formula(call.arguments, answer, slices)
+    if plain(call.function) == "evaluate" and isinstance(answer, Settled):
+        return second_settling(call, answer, slices)
+    if plain(call.function) == "build" and isinstance(answer, Built) and answer.pairs < 5000:
+        return second_formula(call, answer, slices)
     if call.function == "check" and (answer == Passes() or answer[0] == document.STEP):
         return second_verdict(call.arguments, answer)
     return []
 
 
-def second_settling(arguments, answer, slices):
-    """Settling by waveforms."""
-    netlist = document.read_netlist(arguments[0])
-    values, times = methods.waveforms(netlist, *arguments[1:3])
+def second_settling(call, answer, slices):
+    """Settling by waveforms, or by recursion where rise and fall are apart."""
+    netlist = document.read_netlist(call.arguments[0])
+    if call.function.endswith(APART):
+        values, times = methods.settled_apart(netlist, *call.arguments[1:4])
+    else:
+        values, times = methods.waveforms(netlist, *call.arguments[1:3])
     nodes = node_count(netlist)
     same = slices[0][:nodes] == values and slices[1][:nodes] == times
-    return [] if same and max(times[node] for node in netlist.outputs) == answer.time else ["waveforms disagree"]
+    return [] if same and max(times[node] for node in netlist.outputs) == answer.time else ["the second settling disagrees"]
 
 
-def second_formula(arguments, answer, slices):
+def second_formula(call, answer, slices):
     """The formula by recursion."""
-    pairs, clauses = methods.formula(document.read_netlist(arguments[0]), *arguments[1:3])
+    netlist = document.read_netlist(call.arguments[0])
+    if call.function.endswith(APART):
+        pairs, clauses = methods.formula_apart(netlist, *call.arguments[1:4])
+    else:
+        pairs, clauses = methods.formula(netlist, *call.arguments[1:3])
     numbers = [number for clause in clauses for number in clause]
     table = [number for pair in pairs for number in pair]
     same = slices[0][:len(table)] == table and slices[1][:len(numbers)] == numbers
@@ -74,7 +86,8 @@ def second_verdict(arguments, answer):
 def run_round(host, seed, number, tally):
     """Compare the calls of one round: what is wrong, in words."""
     dice = methods.Dice(seed, number)
-    calls, complaints = cases.calls_of_round(dice, number)
+    makers = rise_fall_cases if number >= rise_fall_cases.FIRST_ROUND else cases
+    calls, complaints = makers.calls_of_round(dice, number)
     wrong = ["peer: " + complaint for complaint in complaints]
     for call in calls:
         answer, slices, words = compare_call(host, call)
@@ -98,15 +111,20 @@ def run_share(command, seed, numbers):
 def show_tally(tally):
     """How often each function gave each number, 0 being acceptance."""
     for function in FUNCTIONS:
-        counts = ["%d: %d" % (number, tally[function, number]) for number in range(17) if tally[function, number]]
-        print("%s: by number %s" % (function, ", ".join(counts)))
+        counts = ["%d: %d" % (number, tally[function, number]) for number in range(24) if tally[function, number]]
+        if counts:
+            print("%s: by number %s" % (function, ", ".join(counts)))
 
 
 def round_numbers(options):
     """Which rounds to run."""
     if options.round is not None:
         return [options.round]
-    return list(range(cases.rounds_for(options.cases)))
+    apart = []
+    if tools.has_rise_fall(None if options.twin else options.archive):
+        count = options.cases if options.rise_fall else options.cases * 2 // 5
+        apart = [rise_fall_cases.FIRST_ROUND + round for round in range(rise_fall_cases.rounds_for(count))]
+    return apart if options.rise_fall else list(range(cases.rounds_for(options.cases))) + apart
 
 
 def host_command(options, directory):
@@ -131,6 +149,7 @@ def read_options():
     parser.add_argument("--workers", type=int, default=os.cpu_count())
     parser.add_argument("--round", type=int, help="one round alone")
     parser.add_argument("--valgrind", action="store_true")
+    parser.add_argument("--rise-fall", action="store_true", help="only the calls for rise and fall apart")
     return parser.parse_args()
 
 

@@ -12,6 +12,7 @@ from collections import namedtuple
 # The table of refusals (rule T1): number and name.
 (SHORT, VERSION, COUNT, BACK, GATE, PIN, OUTPUT, VECTOR,
  ROOM, PAIRS, FORMULA, REFUTATION, LAST, STEP, WITNESS, ARRIVAL) = range(1, 17)
+FALL = 19
 
 # The nine kinds (rule K1).
 BUF, NOT, AND, NAND, OR, NOR, XOR, XNOR, MUX = range(1, 10)

@@ -1,11 +1,11 @@
 /* A C host of the library for the comparison tests: reads calls from standard input, makes them, and writes back every
  * answer and every byte of every slice that it lent.
  *
- * A call is one byte (1 evaluate, 2 build, 3 check, 4 judge), then the function's parameters in the header's order,
- * numbers little endian: a number is 4 bytes; a slice to read is its length (4 bytes) and its elements; a slice to be
- * written is its length (4 bytes) alone. The reply is the answer's fields in the header's order, without padding, then
- * the bytes of each slice lent for writing, then one byte: 1 if the bytes around the lent slices and the slices to read
- * are as they were, else 0.
+ * A call is one byte (1 evaluate, 2 build, 3 check, 4 judge; and 5 evaluate, 6 build, 7 judge with rise and fall apart,
+ * where RISE_FALL is defined), then the function's parameters in the header's order, numbers little endian: a number is
+ * 4 bytes; a slice to read is its length (4 bytes) and its elements; a slice to be written is its length (4 bytes)
+ * alone. The reply is the answer's fields in the header's order, without padding, then the bytes of each slice lent for
+ * writing, then one byte: 1 if the bytes around the lent slices and the slices to read are as they were, else 0.
  *
  * Each slice lent for writing is filled with a pattern and lies between guards of the same pattern. With the argument
  * `tight` there are no guards and each block is just as long as its slice, for a run under valgrind.
@@ -17,8 +17,8 @@
 #include <stdlib.h>
 #include <string.h>
 
-enum { EVALUATE = 1, BUILD, CHECK, JUDGE };
-enum { PATTERN = 0xAA, GUARD = 64, MOST_SLICES = 9 };
+enum { EVALUATE = 1, BUILD, CHECK, JUDGE, EVALUATE_RISE_FALL, BUILD_RISE_FALL, JUDGE_RISE_FALL };
+enum { PATTERN = 0xAA, GUARD = 64, MOST_SLICES = 10 };
 
 /* A slice to read, with a copy to compare it with, or one lent for writing. */
 typedef struct {
@@ -130,15 +130,34 @@ static void give_large(uint64_t number)
 #define WORDS(it) (uint32_t *)(void *)(it)->start, (it)->length
 #define SIGNED(it) (int32_t *)(void *)(it)->start, (it)->length
 
+static void give_evaluated(buzzlumen_evaluated answer)
+{
+    give_number(answer.number);
+    give_number(answer.time);
+    give_large(answer.place);
+}
+
+static void give_built(buzzlumen_built answer)
+{
+    give_number(answer.number);
+    give_number(answer.variables);
+    give_large(answer.place);
+    give_large(answer.clauses);
+    give_large(answer.numbers);
+    give_large(answer.pairs);
+}
+
+static void give_judged(buzzlumen_judged answer)
+{
+    give_number(answer.number);
+    give_large(answer.place);
+}
+
 static void evaluate(void)
 {
     slice *netlist = take_slice(1), *arrivals = take_slice(4), *vector = take_slice(1);
     slice *values = lend_slice(1), *times = lend_slice(4);
-    buzzlumen_evaluated answer =
-        buzzlumen_evaluate(BYTES(netlist), WORDS(arrivals), BYTES(vector), BYTES(values), WORDS(times));
-    give_number(answer.number);
-    give_number(answer.time);
-    give_large(answer.place);
+    give_evaluated(buzzlumen_evaluate(BYTES(netlist), WORDS(arrivals), BYTES(vector), BYTES(values), WORDS(times)));
 }
 
 static void build(void)
@@ -146,14 +165,7 @@ static void build(void)
     slice *netlist = take_slice(1), *arrivals = take_slice(4);
     uint32_t target = take_number();
     slice *pairs = lend_slice(4), *formula = lend_slice(4);
-    buzzlumen_built answer =
-        buzzlumen_build(BYTES(netlist), WORDS(arrivals), target, WORDS(pairs), SIGNED(formula));
-    give_number(answer.number);
-    give_number(answer.variables);
-    give_large(answer.place);
-    give_large(answer.clauses);
-    give_large(answer.numbers);
-    give_large(answer.pairs);
+    give_built(buzzlumen_build(BYTES(netlist), WORDS(arrivals), target, WORDS(pairs), SIGNED(formula)));
 }
 
 static void check(void)
@@ -172,12 +184,51 @@ static void judge(void)
     slice *vector = take_slice(1), *refutation = take_slice(4);
     slice *values = lend_slice(1), *times = lend_slice(4), *pairs = lend_slice(4), *formula = lend_slice(4);
     slice *propagation = lend_slice(1);
-    buzzlumen_judged answer =
-        buzzlumen_judge(BYTES(netlist), WORDS(arrivals), delay, BYTES(vector), SIGNED(refutation), BYTES(values),
-                        WORDS(times), WORDS(pairs), SIGNED(formula), BYTES(propagation));
-    give_number(answer.number);
-    give_large(answer.place);
+    give_judged(buzzlumen_judge(BYTES(netlist), WORDS(arrivals), delay, BYTES(vector), SIGNED(refutation),
+                                BYTES(values), WORDS(times), WORDS(pairs), SIGNED(formula), BYTES(propagation)));
 }
+
+#ifdef RISE_FALL
+/* As the header has them: one that says otherwise does not compile with these. */
+buzzlumen_evaluated buzzlumen_evaluate_rise_fall(const uint8_t *, size_t, const uint32_t *, size_t,
+                                                 const uint32_t *, size_t, const uint8_t *, size_t,
+                                                 uint8_t *, size_t, uint32_t *, size_t);
+buzzlumen_built buzzlumen_build_rise_fall(const uint8_t *, size_t, const uint32_t *, size_t, const uint32_t *, size_t,
+                                          uint32_t, uint32_t *, size_t, int32_t *, size_t);
+buzzlumen_judged buzzlumen_judge_rise_fall(const uint8_t *, size_t, const uint32_t *, size_t, const uint32_t *, size_t,
+                                           uint32_t, const uint8_t *, size_t, const int32_t *, size_t,
+                                           uint8_t *, size_t, uint32_t *, size_t, uint32_t *, size_t,
+                                           int32_t *, size_t, uint8_t *, size_t);
+
+static void evaluate_rise_fall(void)
+{
+    slice *netlist = take_slice(1), *arrivals = take_slice(4), *falls = take_slice(4), *vector = take_slice(1);
+    slice *values = lend_slice(1), *times = lend_slice(4);
+    give_evaluated(buzzlumen_evaluate_rise_fall(BYTES(netlist), WORDS(arrivals), WORDS(falls), BYTES(vector),
+                                                BYTES(values), WORDS(times)));
+}
+
+static void build_rise_fall(void)
+{
+    slice *netlist = take_slice(1), *arrivals = take_slice(4), *falls = take_slice(4);
+    uint32_t target = take_number();
+    slice *pairs = lend_slice(4), *formula = lend_slice(4);
+    give_built(buzzlumen_build_rise_fall(BYTES(netlist), WORDS(arrivals), WORDS(falls), target, WORDS(pairs),
+                                         SIGNED(formula)));
+}
+
+static void judge_rise_fall(void)
+{
+    slice *netlist = take_slice(1), *arrivals = take_slice(4), *falls = take_slice(4);
+    uint32_t delay = take_number();
+    slice *vector = take_slice(1), *refutation = take_slice(4);
+    slice *values = lend_slice(1), *times = lend_slice(4), *pairs = lend_slice(4), *formula = lend_slice(4);
+    slice *propagation = lend_slice(1);
+    give_judged(buzzlumen_judge_rise_fall(BYTES(netlist), WORDS(arrivals), WORDS(falls), delay, BYTES(vector),
+                                          SIGNED(refutation), BYTES(values), WORDS(times), WORDS(pairs),
+                                          SIGNED(formula), BYTES(propagation)));
+}
+#endif
 
 int main(int count, char **arguments)
 {
@@ -192,6 +243,14 @@ int main(int count, char **arguments)
             check();
         else if (function == JUDGE)
             judge();
+#ifdef RISE_FALL
+        else if (function == EVALUATE_RISE_FALL)
+            evaluate_rise_fall();
+        else if (function == BUILD_RISE_FALL)
+            build_rise_fall();
+        else if (function == JUDGE_RISE_FALL)
+            judge_rise_fall();
+#endif
         else
             return 5;
         give_slices();

@@ -3,8 +3,9 @@ circuits, arrivals, vectors and damaged files.
 
 Settling is simulated as waveforms of three values in time order; the formula is built by recursion with sets and
 dictionaries, its controlling values and cubes found from the gates' truth tables; unit propagation watches two
-literals a clause; the true delay is the largest time over all vectors. Only the record types and the kinds' numbers are
-shared. Every maker takes a generator of random numbers, so a seed gives the same cases on every machine.
+literals a clause; the true delay is the largest time over all vectors. Where each pin has two delays, settling goes by
+recursion from node to drivers, without events. Only the record types and the kinds' numbers are shared. Every maker
+takes a generator of random numbers, so a seed gives the same cases on every machine.
 """
 
 import functools
@@ -199,6 +200,120 @@ def formula(netlist, arrivals, target):
             for place, value in setting:
                 driver, delay = gate.pins[place]
                 parts += [(driver, t - delay), -(driver + 1) if value else driver + 1]
+            clauses += lateness.either([-number], parts)
+    clauses += lateness.either([], [(node, target) for node in netlist.outputs])
+    return list(lateness.number_of), clauses
+
+
+# Rise and fall apart, by recursion
+
+
+def delay_of(netlist, falls):
+    """A function of node, place and value: the delay of that pin of the node where the node ends at the value."""
+    first_of = list(itertools.accumulate([len(gate.pins) for gate in netlist.gates], initial=0))
+
+    def delay(node, place, value):
+        g = node - netlist.inputs
+        return netlist.gates[g].pins[place].delay if value else falls[first_of[g] + place]
+    return delay
+
+
+def settled_apart(netlist, arrivals, falls, vector):
+    """Value and settling time of each node by recursion: a gate's value first; with the delays for that value it
+    settles at the first moment at which the pins that are ready leave it no other.
+    """
+    delay, known = delay_of(netlist, falls), {}
+
+    def settled(node):
+        if node < netlist.inputs:
+            return vector[node], arrivals[node]
+        if node not in known:
+            gate = netlist.gates[node - netlist.inputs]
+            drivers = [settled(pin.driver) for pin in gate.pins]
+            value = function_of(gate.kind, [each for each, _ in drivers])
+            ready = [time + delay(node, place, value) for place, (_, time) in enumerate(drivers)]
+            moments = (moment for moment in sorted(ready) if known_output(gate.kind, tuple(
+                each if by <= moment else UNKNOWN for (each, _), by in zip(drivers, ready))) is not UNKNOWN)
+            known[node] = value, next(moments)
+        return known[node]
+
+    sys.setrecursionlimit(max(sys.getrecursionlimit(), 10000))
+    both = [settled(node) for node in range(node_count(netlist))]
+    return [value for value, _ in both], [time for _, time in both]
+
+
+def true_delay_apart(netlist, arrivals, falls):
+    """The largest settling time over all vectors, with the first vector that reaches it."""
+    best = (-1, None)
+    for vector in all_vectors(netlist.inputs):
+        _, times = settled_apart(netlist, arrivals, falls, vector)
+        last = max(times[node] for node in netlist.outputs)
+        if last > best[0]:
+            best = (last, vector)
+    return best
+
+
+class LateApart(Late):
+    """Who is late when with which value. A node that is asked for at a time is asked for with both values, so times are
+    kept by node alone, and each gets two numbers.
+    """
+
+    def __init__(self, netlist, arrivals, falls, target):
+        self.delay = delay_of(netlist, falls)
+        super().__init__(netlist, arrivals, target)
+        keys = [(node, value, t) for node in sorted(self.times_of) for value in (0, 1)
+                for t in sorted(self.times_of[node])]
+        self.number_of = dict(zip(keys, itertools.count(node_count(netlist) + 1)))
+
+    def top(self, node):
+        """The latest moment at which a node can settle, if every sum of the larger delays to it counts."""
+        if node not in self.top_of:
+            self.top_of[node] = max([self.top(pin.driver) + self.delay(node, place, value)
+                                     for place, pin in enumerate(self.pins(node)) for value in (0, 1)],
+                                    default=self.arrivals.get(node))
+        return self.top_of[node]
+
+    def want(self, node, t):
+        """Ask for a node at a time, with both values, and for its drivers in turn."""
+        if self.surely(node, t) or t > self.top(node):
+            return
+        if t not in self.times_of.setdefault(node, set()):
+            self.times_of[node].add(t)
+            for place, pin in enumerate(self.pins(node)):
+                for value in (0, 1):
+                    self.want(pin.driver, t - self.delay(node, place, value))
+
+    def either(self, literals, lates):
+        """The clause of some literals, then late conditions (node and time) and literals mixed; a late node is late
+        with 0 or with 1. None where the clause is true.
+        """
+        clause = list(literals)
+        for part in lates:
+            if isinstance(part, int):
+                clause.append(part)
+            elif self.surely(*part):
+                return []
+            elif part[1] <= self.top(part[0]):
+                clause += [self.number_of[part[0], value, part[1]] for value in (0, 1)]
+        return [clause + [0]]
+
+
+def formula_apart(netlist, arrivals, falls, target):
+    """The pairs in order and the formula as lists of numbers, each clause with its 0, where each pin has two delays."""
+    lateness = LateApart(netlist, arrivals, falls, target)
+    clauses = []
+    for g, gate in enumerate(netlist.gates):
+        clauses += truth_clauses(netlist.inputs + g, gate)
+    for (node, value, t), number in lateness.number_of.items():
+        gate = netlist.gates[node - netlist.inputs]
+        drivers = [(pin.driver, t - lateness.delay(node, place, value)) for place, pin in enumerate(gate.pins)]
+        clauses.append([-number, node + 1 if value else -(node + 1), 0])
+        clauses += lateness.either([-number], drivers)
+        for setting in forcing(gate.kind, len(gate.pins)):
+            parts = []
+            for place, wanted in setting:
+                driver = drivers[place][0]
+                parts += [drivers[place], -(driver + 1) if wanted else driver + 1]
             clauses += lateness.either([-number], parts)
     clauses += lateness.either([], [(node, target) for node in netlist.outputs])
     return list(lateness.number_of), clauses
@@ -457,6 +572,44 @@ def bad_arrivals(dice, inputs):
     if style < 2:
         arrivals = (arrivals * 3)[:dice.choice((0, inputs - 1, inputs + 1, inputs + dice.randint(1, 2 * inputs)))]
     return arrivals
+
+
+def own_falls(netlist):
+    """Fall delays that are the file's own."""
+    return [pin.delay for gate in netlist.gates for pin in gate.pins]
+
+
+def random_falls(dice, netlist):
+    """Fall delays for a circuit: the file's own, near them, exchanged among the pins, few small ones, any, or the two
+    ends.
+    """
+    own, style = own_falls(netlist), dice.randrange(8)
+    if style == 0:
+        return own
+    if style in (1, 2):
+        return [min(MOST_DELAY, max(0, delay + dice.choice((-2, -1, 0, 0, 1, 2)))) for delay in own]
+    if style == 3:
+        return dice.sample(own, len(own))
+    if style == 4:
+        return [dice.randrange(4) for _ in own]
+    if style == 5:
+        return [dice.choice((delay, 0)) for delay in own]
+    if style == 6:
+        return [dice.randrange(MOST_DELAY + 1) for _ in own]
+    return [dice.choice((0, 1, MOST_DELAY - 1, MOST_DELAY)) for _ in own]
+
+
+def bad_falls(dice, netlist):
+    """Fall delays that check 19 refuses: of another number, or with one or two over 999; or both."""
+    falls, style = random_falls(dice, netlist), dice.randrange(4)
+    pins = len(falls)
+    if style != 0 and pins:
+        for _ in range(dice.randint(1, 2)):
+            falls[dice.randrange(pins)] = dice.choice((1000, 1001, 1024, 65536, 65541, 2 ** 31, 2 ** 32 - 1))
+    if style < 2 or not pins:
+        falls = (falls * 3 + [1] * (2 * pins + 2))[:dice.choice((0 if pins else 1, max(1, pins - 1) if pins > 1 else 2,
+                                                                 pins + 1, pins + dice.randint(1, pins + 1)))]
+    return falls
 
 
 def random_vector(dice, inputs):

@@ -83,10 +83,26 @@ def loader():
     return [*runner(), LOADER, "--library-path", CROSS_LIBRARY]
 
 
+def symbols_of(archive):
+    """The functions that an archive lists as its own, in the table at its front."""
+    with open(archive, "rb") as file:
+        data = file.read()
+    if data[:10] != b"!<arch>\n/ ":
+        return set()
+    table = data[68:68 + int(data[56:66])]
+    names = table[4 + 4 * int.from_bytes(table[:4], "big"):]
+    return {name.decode() for name in names.split(b"\0") if name}
+
+
+def has_rise_fall(archive):
+    """Whether an archive has the calls for rise and fall apart; the twin, which is asked for by None, has them."""
+    return archive is None or "buzzlumen_judge_rise_fall" in symbols_of(archive)
+
+
 def build_host(directory, archive):
     """Build the C host with the library's archive, or with the twin where there is none; gives the program's path."""
     program = os.path.join(directory, "host")
-    sources = [os.path.join(ROOT, "tests", "host.c")]
+    sources = [os.path.join(ROOT, "tests", "host.c")] + ["-DRISE_FALL"] * has_rise_fall(archive)
     if archive is None:
         sources += ["-DPREFIX=buzzlumen_", os.path.join(ROOT, "bench", "twin.c")]
     else:
