@@ -3,8 +3,12 @@
  *
  *     cost library|twin evaluate TIMES netlist arrivals vector
  *     cost library|twin build TIMES netlist arrivals TARGET PAIRS NUMBERS     (room in elements)
+ *     cost library|twin evaluate_rise_fall TIMES netlist arrivals falls vector
+ *     cost library|twin build_rise_fall TIMES netlist arrivals falls TARGET PAIRS NUMBERS
  *     cost library|twin check TIMES VARIABLES formula refutation
  *     cost library|twin zero TIMES ELEMENTS                           (a refused call that lends so many numbers)
+ *
+ * The calls for rise and fall apart are the library's where RISE_FALL is defined, and the twin's in any case.
  */
 #include "buzzlumen.h"
 
@@ -17,6 +21,15 @@ buzzlumen_evaluated twin_evaluate(const uint8_t *, size_t, const uint32_t *, siz
 buzzlumen_built twin_build(const uint8_t *, size_t, const uint32_t *, size_t, uint32_t, uint32_t *, size_t, int32_t *,
                            size_t);
 buzzlumen_checked twin_check(uint32_t, const int32_t *, size_t, const int32_t *, size_t, uint8_t *, size_t);
+
+buzzlumen_evaluated twin_evaluate_rise_fall(const uint8_t *, size_t, const uint32_t *, size_t, const uint32_t *, size_t,
+                                            const uint8_t *, size_t, uint8_t *, size_t, uint32_t *, size_t);
+buzzlumen_built twin_build_rise_fall(const uint8_t *, size_t, const uint32_t *, size_t, const uint32_t *, size_t,
+                                     uint32_t, uint32_t *, size_t, int32_t *, size_t);
+#ifndef RISE_FALL
+#define buzzlumen_evaluate_rise_fall twin_evaluate_rise_fall
+#define buzzlumen_build_rise_fall twin_build_rise_fall
+#endif
 
 /* A file's bytes and their number. */
 typedef struct {
@@ -84,6 +97,38 @@ static int build(int twin, size_t times, char **words)
     return 0;
 }
 
+static int evaluate_rise_fall(int twin, size_t times, char **words)
+{
+    contents netlist = read_file(words[0]), arrivals = read_file(words[1]), falls = read_file(words[2]);
+    contents vector = read_file(words[3]);
+    uint8_t *values = room(512);
+    uint32_t *settled = room(512 * sizeof *settled);
+    buzzlumen_evaluated answer = {0, 0, 0};
+    for (size_t i = 0; i < times; i++)
+        answer = (twin ? twin_evaluate_rise_fall : buzzlumen_evaluate_rise_fall)(
+            netlist.bytes, netlist.length, (const uint32_t *)arrivals.bytes, arrivals.length / 4,
+            (const uint32_t *)falls.bytes, falls.length / 4, vector.bytes, vector.length, values, 512, settled, 512);
+    printf("%u %u %llu\n", answer.number, answer.time, (unsigned long long)answer.place);
+    return 0;
+}
+
+static int build_rise_fall(int twin, size_t times, char **words)
+{
+    contents netlist = read_file(words[0]), arrivals = read_file(words[1]), falls = read_file(words[2]);
+    uint32_t target = (uint32_t)number(words[3]);
+    size_t pairs = number(words[4]), numbers = number(words[5]);
+    uint32_t *table = room(pairs * sizeof *table);
+    int32_t *formula = room(numbers * sizeof *formula);
+    buzzlumen_built answer = {0, 0, 0, 0, 0, 0};
+    for (size_t i = 0; i < times; i++)
+        answer = (twin ? twin_build_rise_fall : buzzlumen_build_rise_fall)(
+            netlist.bytes, netlist.length, (const uint32_t *)arrivals.bytes, arrivals.length / 4,
+            (const uint32_t *)falls.bytes, falls.length / 4, target, table, pairs, formula, numbers);
+    printf("%u %llu %llu %llu\n", answer.number, (unsigned long long)answer.pairs,
+           (unsigned long long)answer.clauses, (unsigned long long)answer.numbers);
+    return 0;
+}
+
 static int check(int twin, size_t times, char **words)
 {
     uint32_t variables = (uint32_t)number(words[0]);
@@ -121,6 +166,10 @@ int main(int count, char **words)
         return evaluate(twin, times, words + 4);
     if (!strcmp(words[2], "build"))
         return build(twin, times, words + 4);
+    if (!strcmp(words[2], "evaluate_rise_fall"))
+        return evaluate_rise_fall(twin, times, words + 4);
+    if (!strcmp(words[2], "build_rise_fall"))
+        return build_rise_fall(twin, times, words + 4);
     if (!strcmp(words[2], "check"))
         return check(twin, times, words + 4);
     return zero(twin, times, words + 4);

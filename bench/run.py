@@ -5,8 +5,10 @@ Builds one program of the library's archive (target/staticlib/libbuzzlumen.a), t
 instructions of a call as the difference of a run with one call more: by valgrind on x86-64, by a small plugin of qemu's
 on Arm. Prints a table of ratios and how the cost grows, in the library's instructions for each gate, pair or step. The
 ratio of times stands beside it as a hint: it depends on the machine and on what else runs there.
-`--quick` leaves out 65,536 pairs and the refutation of some thousand steps, which take minutes. A benchmark, not a
-test. Assumes Debian, and the right to install what is missing.
+`--quick` leaves out 65,536 pairs and the refutation of some thousand steps, which take minutes. Where the archive has
+the calls for rise and fall apart, their rows stand at the end; `--rise-fall` gives these alone, each with the most that
+its ratio may be, and ends with 1 where one is above. A benchmark, not a test. Assumes Debian, and the right to install
+what is missing.
 """
 
 import os
@@ -24,6 +26,7 @@ sys.path.insert(0, os.path.join(ROOT, "tests"))
 
 import document  # noqa: E402
 import methods  # noqa: E402
+import rise_fall  # noqa: E402
 import solvers  # noqa: E402
 import tools  # noqa: E402
 
@@ -33,12 +36,16 @@ SEED = 2026
 TIMED = 300_000_000
 TIMES = 5
 
+# The most that a call for rise and fall apart may cost beside the twin's.
+MOST_RATIO = {"evaluate_rise_fall": 1.2, "build_rise_fall": 1.3}
+
 
 def build_program(folder, archive):
     """The program that calls both, from the archive, the twin and cost.c."""
     program = os.path.join(folder, "cost")
     subprocess.run(
         [*tools.compiler(), "-O2", "-Wall", "-I", os.path.join(ROOT, "include"), "-o", program,
+         *["-DRISE_FALL"] * tools.has_rise_fall(archive),
          os.path.join(HERE, "cost.c"), os.path.join(HERE, "twin.c"), archive], check=True)
     return program
 
@@ -140,20 +147,80 @@ def building_cases(folder, dice, quick, program):
 
 
 def building_case(folder, program, name, netlist, target, arrival=0):
-    """A formula in just the room that it needs, since zeroing more is the same for all; or refused for its pairs."""
+    """A formula of one delay a pin."""
     given = [write(folder, "netlist", document.write_netlist(netlist)),
              write(folder, "arrivals", arrival_times([arrival] * netlist.inputs)), str(target)]
+    return formula_case(program, name, "build", given, 2)
 
+
+def formula_case(program, name, function, given, width):
+    """A formula in just the room that it needs, since zeroing more is the same for all; or refused for its pairs, each
+    of so many numbers.
+    """
     def answer(pairs, numbers):
-        run = subprocess.run([*tools.runner(), program, "library", "build", "1", *given, str(pairs), str(numbers)],
+        run = subprocess.run([*tools.runner(), program, "library", function, "1", *given, str(pairs), str(numbers)],
                              capture_output=True, text=True, check=True)
         return map(int, run.stdout.split())
-    most = 2 * document.MOST_PAIRS
+    most = width * document.MOST_PAIRS
     number, pairs, _, numbers = answer(most, 90_000_000 // 16)
     if number == document.PAIRS:
-        return f"build, {name}: refused", "build", [*given, str(most), "0"], 1, (document.MOST_PAIRS, "pair")
-    arguments = [*given, str(2 * pairs), str(numbers)]
-    return f"build, {name}: {pairs:,} pairs", "build", arguments, 1, (pairs, "pair")
+        return f"build, {name}: refused", function, [*given, str(most), "0"], 1, (document.MOST_PAIRS, "pair")
+    arguments = [*given, str(width * pairs), str(numbers)]
+    return f"build, {name}: {pairs:,} pairs", function, arguments, 1, (pairs, "pair")
+
+
+def rise_fall_cases(folder, quick, program):
+    """Rise and fall apart: a small netlist and the largest under a vector; formulas of ladders, of two of the largest
+    netlists with small delays, and of a node that drives 1,500 pins, of which every sixteenth falls faster. Dice of
+    their own, so that the other cases stay as they are.
+    """
+    dice = methods.Dice(SEED, 10)
+    for name, netlist in (("small", methods.random_netlist(dice, 6, 40)), ("largest", methods.largest_netlist(dice))):
+        pins = sum(len(gate.pins) for gate in netlist.gates)
+        given = apart_files(folder, netlist, [dice.randint(0, document.MOST_DELAY) for _ in range(pins)])
+        vector = write(folder, "vector", bytes(methods.random_vector(dice, netlist.inputs)))
+        yield (f"evaluate, rise and fall, {name}: {pins:,} pins", "evaluate_rise_fall", [*given, vector], 20,
+               (len(netlist.gates), "gate"))
+    for pairs in (1000, 10000) if quick else (1000, 10000, 65536):
+        netlist = methods.ladders_for_pairs(dice, pairs // 2)
+        yield apart_case(folder, program, "ladders", netlist, methods.own_falls(netlist), methods.LADDER_TARGET)
+    for number, most, share in ((0, 29, 0.5),) if quick else ((0, 29, 0.5), (1, 3, 0.875)):
+        netlist, falls = small_delays(methods.Dice(SEED, number), most)
+        yield apart_case(folder, program, f"delays 0 to {most}", netlist, falls,
+                         int(apart_top(netlist, falls) * share))
+    netlist = wide_driver(dice)
+    falls = [max(0, delay - (place % 16 == 0)) for place, delay in enumerate(methods.own_falls(netlist))]
+    for quarters in 1, 3:
+        yield apart_case(folder, program, f"1,500 readers at {quarters}/4", netlist, falls,
+                         apart_top(netlist, falls) * quarters // 4)
+
+
+def apart_case(folder, program, name, netlist, falls, target):
+    """A formula where rise and fall are apart."""
+    given = [*apart_files(folder, netlist, falls), str(target)]
+    return formula_case(program, f"rise and fall, {name}", "build_rise_fall", given, 3)
+
+
+def apart_files(folder, netlist, falls):
+    """The files of a netlist, of arrivals at 0 and of fall delays."""
+    return [write(folder, "netlist", document.write_netlist(netlist)),
+            write(folder, "arrivals", arrival_times(methods.in_time(netlist))),
+            write(folder, "falls", arrival_times(falls))]
+
+
+def apart_top(netlist, falls):
+    """The longest sum of the larger delays to an output."""
+    tops = rise_fall.tops_of(netlist, methods.in_time(netlist), falls)
+    return max(tops[node] for node in netlist.outputs)
+
+
+def small_delays(dice, most):
+    """One of the largest netlists with delays up to a small one, and such falls."""
+    netlist = methods.largest_netlist(dice)
+    gates = [document.Gate(gate.kind, [document.Pin(pin.driver, dice.randint(0, most)) for pin in gate.pins])
+             for gate in netlist.gates]
+    netlist = document.Netlist(netlist.inputs, gates, netlist.outputs)
+    return netlist, [dice.randint(0, most) for _ in methods.own_falls(netlist)]
 
 
 def top(netlist):
@@ -210,7 +277,7 @@ def zeroing_cases():
 
 
 def compare(count, program, case):
-    """One line of the table."""
+    """One line of the table; gives whether the ratio is as it may be."""
     name, function, arguments, calls, (units, unit) = case
     ours, answer = cost(count, program, "library", function, arguments, calls)
     twins, other = cost(count, program, "twin", function, arguments, calls)
@@ -219,8 +286,10 @@ def compare(count, program, case):
     timed = max(1, TIMED // ours)
     hint = seconds(program, "library", function, arguments, timed)
     hint /= seconds(program, "twin", function, arguments, timed)
-    print(f"{name:<48} {ours:>14,} {twins:>14,} {ours / twins:>7.2f} {hint:>7.2f} {ours / units:>12,.0f} a {unit}",
-          flush=True)
+    most = MOST_RATIO.get(function)
+    print(f"{name:<48} {ours:>14,} {twins:>14,} {ours / twins:>7.2f} {hint:>7.2f} {ours / units:>12,.0f} a {unit}"
+          + (f", at most {most}" if most else ""), flush=True)
+    return most is None or ours / twins <= most
 
 
 def main():
@@ -234,14 +303,19 @@ def main():
         program = build_program(folder, archive)
         count = counter(folder)
         print(f"{'case':<48} {'library':>14} {'twin':>14} {'ratio':>7} {'time':>7} {'growth':>12}")
-        for case in zeroing_cases():
-            compare(count, program, case)
-        for case in evaluation_cases(folder, dice):
-            compare(count, program, case)
-        for case in building_cases(folder, dice, quick, program):
-            compare(count, program, case)
-        for case in checking_cases(folder, quick):
-            compare(count, program, case)
+        if "--rise-fall" not in sys.argv:
+            for case in zeroing_cases():
+                compare(count, program, case)
+            for case in evaluation_cases(folder, dice):
+                compare(count, program, case)
+            for case in building_cases(folder, dice, quick, program):
+                compare(count, program, case)
+            for case in checking_cases(folder, quick):
+                compare(count, program, case)
+        if tools.has_rise_fall(archive) or "--rise-fall" in sys.argv:
+            met = [compare(count, program, case) for case in rise_fall_cases(folder, quick, program)]
+            if not all(met):
+                sys.exit("bench: a ratio is above the most that it may be")
 
 
 if __name__ == "__main__":

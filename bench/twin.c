@@ -698,11 +698,11 @@ static uint32_t delay_for(const netlist *n, const uint32_t *falls, uint32_t pin,
     return value ? delay_at(n, pin) : falls[pin];
 }
 
-/* A simple gate in one pass: a controlling pin counts with the delay for k, any with the one for the other value. */
-static void settle_simple_apart(const netlist *n, const uint32_t *falls, gate it, uint32_t node, uint8_t *values,
-                                uint32_t *times)
+/* A simple gate in one pass: a controlling pin counts with the delay for k, any other with the one for 1 - k. */
+static inline __attribute__((always_inline)) void settle_simple_forced(const netlist *n, const uint32_t *falls, gate it,
+                                                                       uint32_t node, uint8_t *values,
+                                                                       uint32_t *times, uint32_t c, uint32_t k)
 {
-    uint32_t c = controlling(it.kind), k = forced(it.kind);
     uint32_t first = UINT32_MAX, last = 0;
     for (uint32_t p = it.first; p < it.first + it.count; p++) {
         uint32_t driver = driver_at(n, p);
@@ -718,6 +718,16 @@ static void settle_simple_apart(const netlist *n, const uint32_t *falls, gate it
     }
     values[node] = (uint8_t)(first != UINT32_MAX ? k : 1 - k);
     times[node] = first != UINT32_MAX ? first : last;
+}
+
+/* Written out for both values of k, so that no pin asks which it is. */
+static void settle_simple_apart(const netlist *n, const uint32_t *falls, gate it, uint32_t node, uint8_t *values,
+                                uint32_t *times)
+{
+    if (forced(it.kind))
+        settle_simple_forced(n, falls, it, node, values, times, controlling(it.kind), 1);
+    else
+        settle_simple_forced(n, falls, it, node, values, times, controlling(it.kind), 0);
 }
 
 static void settle_parity_apart(const netlist *n, const uint32_t *falls, gate it, uint32_t node, uint8_t *values,
