@@ -10,9 +10,11 @@
  * length (8 bytes) and its elements. All numbers are little endian. Arguments stand in the header's order, and so do
  * fields.
  *
- * Beside the library's four functions there are six for a search: a refutation without the steps that it does not need,
+ * Beside the library's own functions there are six for a search: a refutation without the steps that it does not need,
  * of a formula or of a netlist's formula for a target; a walk over all vectors, the times of some, a vector with fewer
- * ones; and a formula written to a file as DIMACS CNF. Where one takes a netlist, its arrivals come right behind it.
+ * ones; and a formula written to a file as DIMACS CNF. Where one takes a netlist, its arrivals come right behind it. An
+ * argument more behind these is the fall delays: the library's calls for rise and fall apart are then made. They are
+ * there where RISE_FALL is defined, and the last function says whether they are.
  *
  * One process answers any number of requests and ends with its input: 0 there, 2 where a request does not read, 3 where
  * the answer cannot be written, 4 where memory is short. Assumes a little endian machine.
@@ -24,7 +26,8 @@
 #include <stdlib.h>
 #include <string.h>
 
-enum { EVALUATE = 1, BUILD, CHECK, JUDGE, SHORTEN, WALK, WRITE_FORMULA, SHORTEN_FOR, TIMES_OF, FEWER_ONES };
+enum { EVALUATE = 1, BUILD, CHECK, JUDGE, SHORTEN, WALK, WRITE_FORMULA, SHORTEN_FOR, TIMES_OF, FEWER_ONES,
+       TAKES_FALLS };
 enum { NUMBER = 1, BYTES, WORDS, LENT_BYTES, LENT_WORDS, WORK_BYTES, WORK_WORDS };
 enum { MOST_ARGUMENTS = 16, MOST_FIELDS = 8, MOST_NODES = 512, MOST_INPUTS = 64 };
 enum { REQUEST_DOES_NOT_READ = 2, ANSWER_NOT_WRITTEN = 3, MEMORY_IS_SHORT = 4 };
@@ -35,7 +38,9 @@ typedef struct {
     void *start;
 } argument;
 
-static argument arguments[MOST_ARGUMENTS];
+/* The arguments in the order of the calls for one delay a pin; beside them the fall delays, without a block where there
+ * are none. */
+static argument arguments[MOST_ARGUMENTS], falls;
 static uint32_t argument_count;
 static uint64_t fields[MOST_FIELDS];
 static uint32_t field_count;
@@ -88,6 +93,26 @@ static void take_arguments(uint32_t expected)
         take_argument(&arguments[i]);
 }
 
+/* Arguments that begin with a netlist and its arrivals; where there is one more than expected, the third is the fall
+ * delays, and is set aside. */
+static void take_circuit(uint32_t expected)
+{
+    take(&argument_count, sizeof argument_count);
+    if (argument_count != expected && argument_count != expected + 1)
+        exit(REQUEST_DOES_NOT_READ);
+    int apart = argument_count == expected + 1;
+#ifndef RISE_FALL
+    if (apart)
+        exit(REQUEST_DOES_NOT_READ);
+#endif
+    for (uint32_t i = 0; i < expected; i++) {
+        if (apart && i == 2)
+            take_argument(&falls);
+        take_argument(&arguments[i]);
+    }
+    argument_count = expected;
+}
+
 /* The answer; the arguments' blocks are freed. */
 static void give_answer(void)
 {
@@ -101,6 +126,8 @@ static void give_answer(void)
         }
         free(it->start);
     }
+    free(falls.start);
+    falls.start = NULL;
     if (fflush(stdout) != 0)
         exit(ANSWER_NOT_WRITTEN);
     field_count = argument_count = 0;
@@ -116,11 +143,51 @@ static void field(uint64_t value)
 #define SOME_WORDS(place) (uint32_t *)arguments[place].start, arguments[place].length
 #define SOME_SIGNED(place) (int32_t *)arguments[place].start, arguments[place].length
 
+/* The library's calls on a request's circuit: those for rise and fall apart where it has fall delays. */
+
+#ifdef RISE_FALL
+#define FALLS (const uint32_t *)falls.start, falls.length
+#endif
+
+static buzzlumen_evaluated evaluate_circuit(const uint8_t *vector, size_t vector_length, uint8_t *values,
+                                            size_t values_length, uint32_t *times, size_t times_length)
+{
+#ifdef RISE_FALL
+    if (falls.start != NULL)
+        return buzzlumen_evaluate_rise_fall(SOME_BYTES(0), SOME_WORDS(1), FALLS, vector, vector_length, values,
+                                            values_length, times, times_length);
+#endif
+    return buzzlumen_evaluate(SOME_BYTES(0), SOME_WORDS(1), vector, vector_length, values, values_length, times,
+                              times_length);
+}
+
+static buzzlumen_built build_circuit(uint32_t target, uint32_t *pairs, size_t pairs_length, int32_t *formula,
+                                     size_t formula_length)
+{
+#ifdef RISE_FALL
+    if (falls.start != NULL)
+        return buzzlumen_build_rise_fall(SOME_BYTES(0), SOME_WORDS(1), FALLS, target, pairs, pairs_length, formula,
+                                         formula_length);
+#endif
+    return buzzlumen_build(SOME_BYTES(0), SOME_WORDS(1), target, pairs, pairs_length, formula, formula_length);
+}
+
+static buzzlumen_judged judge_circuit(void)
+{
+#ifdef RISE_FALL
+    if (falls.start != NULL)
+        return buzzlumen_judge_rise_fall(SOME_BYTES(0), SOME_WORDS(1), FALLS, A_NUMBER(2), SOME_BYTES(3),
+                                         SOME_SIGNED(4), SOME_BYTES(5), SOME_WORDS(6), SOME_WORDS(7), SOME_SIGNED(8),
+                                         SOME_BYTES(9));
+#endif
+    return buzzlumen_judge(SOME_BYTES(0), SOME_WORDS(1), A_NUMBER(2), SOME_BYTES(3), SOME_SIGNED(4), SOME_BYTES(5),
+                           SOME_WORDS(6), SOME_WORDS(7), SOME_SIGNED(8), SOME_BYTES(9));
+}
+
 static void evaluate(void)
 {
-    take_arguments(5);
-    buzzlumen_evaluated answer =
-        buzzlumen_evaluate(SOME_BYTES(0), SOME_WORDS(1), SOME_BYTES(2), SOME_BYTES(3), SOME_WORDS(4));
+    take_circuit(5);
+    buzzlumen_evaluated answer = evaluate_circuit(SOME_BYTES(2), SOME_BYTES(3), SOME_WORDS(4));
     field(answer.number);
     field(answer.place);
     field(answer.time);
@@ -128,10 +195,9 @@ static void evaluate(void)
 
 static void build(void)
 {
-    take_arguments(5);
-    buzzlumen_built answer =
-        buzzlumen_build(SOME_BYTES(0), SOME_WORDS(1), A_NUMBER(2), SOME_WORDS(3), SOME_SIGNED(4));
-    arguments[3].length = 2 * answer.pairs;
+    take_circuit(5);
+    buzzlumen_built answer = build_circuit(A_NUMBER(2), SOME_WORDS(3), SOME_SIGNED(4));
+    arguments[3].length = (falls.start != NULL ? 3 : 2) * answer.pairs;
     arguments[4].length = answer.numbers;
     field(answer.number);
     field(answer.place);
@@ -152,10 +218,8 @@ static void check(void)
 
 static void judge(void)
 {
-    take_arguments(10);
-    buzzlumen_judged answer =
-        buzzlumen_judge(SOME_BYTES(0), SOME_WORDS(1), A_NUMBER(2), SOME_BYTES(3), SOME_SIGNED(4),
-                        SOME_BYTES(5), SOME_WORDS(6), SOME_WORDS(7), SOME_SIGNED(8), SOME_BYTES(9));
+    take_circuit(10);
+    buzzlumen_judged answer = judge_circuit();
     field(answer.number);
     field(answer.place);
 }
@@ -170,22 +234,20 @@ static void leave_out_steps(void)
 /* The same for a refutation of a netlist's formula for a target, which is built in the room for work. */
 static void leave_out_steps_for(void)
 {
-    take_arguments(7);
-    buzzlumen_built answer =
-        buzzlumen_build(SOME_BYTES(0), SOME_WORDS(1), A_NUMBER(2), SOME_WORDS(4), SOME_SIGNED(5));
+    take_circuit(7);
+    buzzlumen_built answer = build_circuit(A_NUMBER(2), SOME_WORDS(4), SOME_SIGNED(5));
     arguments[6].length = answer.number != 0 ? 0 : shorten(answer.variables, arguments[5].start, answer.numbers,
                                                            SOME_SIGNED(3), arguments[6].start);
     field(answer.number);
     field(answer.place);
 }
 
-/* How the netlist of a request settles, with its arrivals, under a vector; the nodes' values and times are left
- * aside. */
+/* How the circuit of a request settles under a vector; the nodes' values and times are left aside. */
 static buzzlumen_evaluated settle(const uint8_t *vector, size_t inputs)
 {
     static uint8_t values[MOST_NODES];
     static uint32_t times[MOST_NODES];
-    return buzzlumen_evaluate(SOME_BYTES(0), SOME_WORDS(1), vector, inputs, values, MOST_NODES, times, MOST_NODES);
+    return evaluate_circuit(vector, inputs, values, MOST_NODES, times, MOST_NODES);
 }
 
 /* Of all vectors of so many inputs, input 0 most significant and 0 before 1, the first that settles
@@ -194,7 +256,7 @@ static void walk(void)
 {
     static uint8_t vector[MOST_INPUTS];
     buzzlumen_evaluated answer = {0, 0, 0}, best = {0, 0, 0};
-    take_arguments(5);
+    take_circuit(5);
     size_t inputs = arguments[4].length;
     if (inputs > MOST_INPUTS - 1)
         exit(REQUEST_DOES_NOT_READ);
@@ -218,7 +280,7 @@ static void walk(void)
 static void times_of(void)
 {
     buzzlumen_evaluated answer = {0, 0, 0};
-    take_arguments(5);
+    take_circuit(5);
     size_t inputs = A_NUMBER(3), count = arguments[4].length;
     if (arguments[2].length != inputs * count)
         exit(REQUEST_DOES_NOT_READ);
@@ -233,7 +295,7 @@ static void times_of(void)
 /* A vector that settles at a time, with a 0 for each of its ones that can go, in order, while it still does. */
 static void fewer_ones(void)
 {
-    take_arguments(5);
+    take_circuit(5);
     uint8_t *vector = arguments[4].start;
     size_t inputs = arguments[4].length;
     if (arguments[3].length != inputs)
@@ -287,9 +349,8 @@ static int write_clauses(FILE *file, const int32_t *numbers, size_t length)
  * field is 0 where the file took it all. */
 static void write_formula(void)
 {
-    take_arguments(6);
-    buzzlumen_built answer =
-        buzzlumen_build(SOME_BYTES(0), SOME_WORDS(1), A_NUMBER(2), SOME_WORDS(4), SOME_SIGNED(5));
+    take_circuit(6);
+    buzzlumen_built answer = build_circuit(A_NUMBER(2), SOME_WORDS(4), SOME_SIGNED(5));
     int wrong = 0;
     if (answer.number == 0) {
         FILE *file = fopen(arguments[3].start, "w");
@@ -301,6 +362,17 @@ static void write_formula(void)
     field(answer.number);
     field(answer.place);
     field((uint64_t)wrong);
+}
+
+/* Whether the calls for rise and fall apart are there. */
+static void takes_falls(void)
+{
+    take_arguments(0);
+#ifdef RISE_FALL
+    field(1);
+#else
+    field(0);
+#endif
 }
 
 int main(void)
@@ -318,6 +390,7 @@ int main(void)
         case SHORTEN_FOR: leave_out_steps_for(); break;
         case TIMES_OF: times_of(); break;
         case FEWER_ONES: fewer_ones(); break;
+        case TAKES_FALLS: takes_falls(); break;
         default: return REQUEST_DOES_NOT_READ;
         }
         give_answer();

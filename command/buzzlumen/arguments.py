@@ -7,11 +7,14 @@ without argparse. `add` gives what has argparse's calls for a subcommand's argum
 CIRCUIT_HELP = "a circuit: its text or a netlist file, known by its content; - is standard input"
 ARRIVALS_HELP = ("when inputs arrive: b=25,c=3 sets these and leaves the others as the text has them, 0,25,3 sets all; "
                  "in a netlist file all arrive at 0")
+FALLS_HELP = ("the delay of each pin for a gate that ends at 0, in the pins' order: 5,1,1; else as the text has it, and "
+              "in a netlist file as the pin's own")
 
 
 def add_arrivals(parser):
-    """The option of a command that asks about a circuit."""
+    """The options of a command that asks about a circuit."""
     parser.add_argument("--arrivals", metavar="TIMES", help=ARRIVALS_HELP)
+    parser.add_argument("--falls", metavar="DELAYS", help=FALLS_HELP)
 
 
 def add_output(parser, what):

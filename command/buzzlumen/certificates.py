@@ -3,13 +3,15 @@
     buzzlumen certificate 1
     netlist sha256 64 hexadecimal digits
     arrivals b=25
+    falls 5 1 1 1 1
     delay 27
     vector a=1 b=0
     refutation 1
     0
 
-The line of arrivals is there where an input arrives after 0, and names those inputs. A line that this version does not
-know is refused by its name, so that a later one may add some.
+The line of arrivals is there where an input arrives after 0, and names those inputs. The line of falls is there where a
+pin falls at another speed than it rises, and has the fall delay of every pin in the netlist's order. A line that this
+version does not know is refused by its name, so that a later one may add some.
 """
 
 import array
@@ -17,8 +19,9 @@ from collections import namedtuple
 
 from . import files
 from .arrivals import late_inputs
+from .falls import all_falls
 from .formulas import clause_text
-from .netlist import TRAILER
+from .netlist import TRAILER, pin_count
 from .refutations import Refutation, row
 from .trouble import Refused, Slip
 from .vectors import named_value, shown_vector
@@ -26,12 +29,12 @@ from .words import MOST_NUMBER, count, lines_of, number_in, shown
 
 FIRST_LINE = "buzzlumen certificate 1"
 DIGEST_DIGITS = 64
-KNOWN = ("netlist", "arrivals", "delay", "vector", "refutation")
-NOT_NEEDED = ("arrivals",)
+KNOWN = ("netlist", "arrivals", "falls", "delay", "vector", "refutation")
+NOT_NEEDED = ("arrivals", "falls")
 
 # A certificate: the netlist's digest, the delay, the inputs' names in the vector's order, with the arrival and the
-# value of each, the refutation.
-Certificate = namedtuple("Certificate", "path digest delay names arrivals values refutation")
+# value of each, the pins' fall delays or None, the refutation.
+Certificate = namedtuple("Certificate", "path digest delay names arrivals values falls refutation")
 
 
 def digest_of(data):
@@ -44,8 +47,10 @@ def digest_of(data):
 def write_certificate(circuit, delay, vector, refutation):
     """The text of a certificate."""
     late = late_inputs(circuit.names, circuit.arrivals)
-    arrivals = ["arrivals " + " ".join(late)] if late else []
-    lines = [FIRST_LINE, f"netlist sha256 {digest_of(circuit.data)}", *arrivals, f"delay {delay}",
+    given = ["arrivals " + " ".join(late)] if late else []
+    if circuit.falls is not None:
+        given.append("falls " + " ".join(map(str, circuit.falls)))
+    lines = [FIRST_LINE, f"netlist sha256 {digest_of(circuit.data)}", *given, f"delay {delay}",
              f"vector {shown_vector(vector, circuit.names)}", f"refutation {sum(1 for n in refutation if n == 0)}"]
     return "".join(line + "\n" for line in lines) + clause_text(refutation)
 
@@ -56,8 +61,8 @@ def write_certificate(circuit, delay, vector, refutation):
 class Reading:
     """A certificate as far as it has been read."""
 
-    def __init__(self, path):
-        self.path, self.found = path, {}
+    def __init__(self, path, takes_falls):
+        self.path, self.found, self.takes_falls = path, {}, takes_falls
         self.numbers, self.file_lines = array.array("i"), array.array("I")
 
     def slip(self, place, words):
@@ -67,8 +72,8 @@ class Reading:
     def add(self, place, line):
         """A line before the refutation's steps."""
         word, _, rest = line.partition(" ")
-        if word not in KNOWN:
-            known = " ".join(KNOWN)
+        if word not in KNOWN or (word == "falls" and not self.takes_falls()):
+            known = " ".join(each for each in KNOWN if each != "falls" or self.takes_falls())
             raise self.slip(place, f"{shown(word)} is no line of a certificate of version 1; known are {known}")
         if word in self.found:
             raise self.slip(place, f"{word} stands here for the second time")
@@ -92,6 +97,13 @@ class Reading:
         """The arrivals by name, with the line."""
         wrong = "arrivals names inputs and when they arrive, as b=25"
         return place, self.numbers_by_name(place, rest, MOST_NUMBER, wrong, "an arrival")
+
+    def read_falls(self, place, rest):
+        """The fall delays of all pins, with the line."""
+        falls = [number_in(word, MOST_NUMBER) for word in rest.split()]
+        if not falls or None in falls:
+            raise self.slip(place, "falls has a delay for each pin, in the pins' order, as 5 1 1")
+        return place, falls
 
     def read_vector(self, place, rest):
         """The values by name."""
@@ -137,7 +149,7 @@ class Reading:
         value_of = self.found["vector"]
         arrivals = [self.arrival_of().get(name, 0) for name in value_of]
         return Certificate(self.path, self.found["netlist"], self.found["delay"], list(value_of), arrivals,
-                           list(value_of.values()), refutation)
+                           list(value_of.values()), self.found.get("falls", (0, None))[1], refutation)
 
     def arrival_of(self):
         """The arrivals by name; each name is one of the vector's."""
@@ -148,14 +160,14 @@ class Reading:
         return arrival_of
 
 
-def read_certificate(path):
-    """The certificate in a file."""
+def read_certificate(path, takes_falls=lambda: True):
+    """The certificate in a file; `takes_falls` says whether the library has calls for two delays a pin."""
     data = files.read_bytes(path)
     kind = files.kind_of(data)
     if kind != files.CERTIFICATE:
         what = "is empty" if not data.strip() else "is no certificate: its first line is not " + shown(FIRST_LINE)
         raise Slip(f"{files.name_of(path)}: {what}")
-    reading, first = Reading(path), True
+    reading, first = Reading(path, takes_falls), True
     for place, line in enumerate(lines_of(files.text_of(path, data)), 1):
         line = line.partition("#")[0].strip()
         if not line:
@@ -194,6 +206,22 @@ def check_arrivals(certificate, circuit):
             hint = "; a netlist file holds no arrivals, --arrivals sets them" if circuit.plain else ""
             raise Refused(f"{files.name_of(certificate.path)}: is for other arrivals: {name} arrives at {there} there, "
                           f"and at {here} here{hint}")
+
+
+def check_falls(certificate, circuit):
+    """A refusal where the certificate is for other fall delays than the circuit's; without its line each is the pin's
+    own delay."""
+    pins = [(name, circuit.names[pin.driver], pin) for name, gate
+            in zip(circuit.names[circuit.netlist.inputs:], circuit.netlist.gates) for pin in gate.pins]
+    theirs = [pin.delay for _, _, pin in pins] if certificate.falls is None else certificate.falls
+    if len(theirs) != pin_count(circuit.netlist):
+        raise Refused(f"{files.name_of(certificate.path)}: has {count(len(theirs), 'fall delay')}, and the circuit has "
+                      f"{count(len(pins), 'pin')}")
+    for (name, driver, _), there, here in zip(pins, theirs, all_falls(circuit.netlist)):
+        if there != here:
+            hint = "; a netlist file holds no fall delays, --falls sets them" if circuit.plain else ""
+            raise Refused(f"{files.name_of(certificate.path)}: is for other fall delays: {name} falls {there} after "
+                          f"{driver} there, and {here} here{hint}")
 
 
 def in_order(certificate, circuit, numbers):

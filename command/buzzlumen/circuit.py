@@ -9,8 +9,9 @@
 
 One statement a line; `#` starts a comment. Inputs come first; one that arrives late has a colon and its arrival behind
 its name, as b:25, and the others arrive at 0. A pin is the name of an input or of a gate on a line above, a colon, and
-the pin's delay, 0 to 999. MUX takes its pins as select, a, b. A name is any run of printable characters but blanks and
-( ) , : = #. Outputs may be named in any order.
+the pin's delay, 0 to 999. Where a gate rises and falls at different speeds there are two, as a:3/5: 3 where the gate
+ends at 1, 5 where it ends at 0. MUX takes its pins as select, a, b. A name is any run of printable characters but
+blanks and ( ) , : = #. Outputs may be named in any order.
 """
 
 from collections import namedtuple
@@ -18,14 +19,15 @@ from collections import namedtuple
 from . import files
 from .arrivals import asked_arrivals
 from .netlist import (KINDS, MOST_ARRIVAL, MOST_DELAY, MOST_GATES, MOST_INPUTS, MOST_OUTPUTS, MOST_PINS, PIN_COUNTS,
-                      Gate, Netlist, Pin, read_netlist, write_netlist)
+                      Gate, Netlist, Pin, falls_of, read_netlist, write_netlist)
 from .refusals import ARRIVAL, of_arrivals, of_netlist
 from .trouble import Slip
 from .words import MOST_NUMBER, is_digits, is_name, lines_of, number_in, printable, shown
 
 # A circuit out of a file: the netlist file's bytes, the netlist, each input's arrival, the name of each node, inputs
-# first; `plain` says that the names are n0, n1 and so on, as a netlist file holds none.
-Circuit = namedtuple("Circuit", "path data netlist arrivals names plain")
+# first; `plain` says that the names are n0, n1 and so on, as a netlist file holds none. The falls are each pin's delay
+# for a gate that ends at 0; None where no pin has two delays.
+Circuit = namedtuple("Circuit", "path data netlist arrivals names plain falls")
 
 # What a text draws: the netlist, each input's arrival and the line that names it, the name of each node.
 Drawn = namedtuple("Drawn", "netlist arrivals lines names")
@@ -39,9 +41,10 @@ class Mistake(Exception):
 
 
 class Drawing:
-    """The circuit as far as it has been read."""
+    """The circuit as far as it has been read; `takes_falls` says whether the library has calls for two delays a pin."""
 
-    def __init__(self):
+    def __init__(self, takes_falls=lambda: True):
+        self.takes_falls = takes_falls
         self.number_of = {}
         self.arrivals, self.lines = [], []
         self.gates = []
@@ -99,15 +102,23 @@ class Drawing:
         at_most("pins", self.pins, MOST_PINS)
 
     def pin(self, word):
-        """A pin, `NAME:DELAY`."""
+        """A pin, `NAME:DELAY` or `NAME:RISE/FALL`."""
         name, delay = (part.strip() for part in word.partition(":")[::2])
-        if is_name(name) and all(is_digits(part) for part in delay.split("/", 1)) and "/" in delay:
-            raise Mistake(f"{shown(word)}: a delay for rising and one for falling are not read yet; write one")
+        if is_name(name) and "/" in delay:
+            return self.pin_of_two(word, name, *(part.strip() for part in delay.split("/", 1)))
         if not is_name(name) or not is_digits(delay):
             raise Mistake(f"{shown(word)} is no pin; a pin is a name, a colon and a delay, as b:1")
-        if number_in(delay, MOST_DELAY) is None:
-            raise Mistake(f"the delay {shown(delay)} of pin {printable(name)} is over {MOST_DELAY}")
-        return Pin(self.node(name), number_in(delay, MOST_DELAY))
+        own = delay_in(delay, name, "delay")
+        return Pin(self.node(name), own, own)
+
+    def pin_of_two(self, word, name, rise, fall):
+        """A pin with two delays."""
+        if not is_digits(rise) or not is_digits(fall):
+            raise Mistake(f"{shown(word)} is no pin; two delays are one for rising, a slash and one for falling, as "
+                          "b:3/5")
+        if not self.takes_falls():
+            raise Mistake(f"{shown(word)}: a delay for rising and one for falling are not read yet; write one")
+        return Pin(self.node(name), delay_in(rise, name, "rise delay"), delay_in(fall, name, "fall delay"))
 
     def whole(self):
         """What is drawn, when every line has been read."""
@@ -117,6 +128,14 @@ class Drawing:
             raise Mistake("the circuit has no output")
         netlist = Netlist(self.inputs, self.gates, sorted(self.outputs))
         return Drawn(netlist, self.arrivals, self.lines, list(self.number_of))
+
+
+def delay_in(digits, name, what):
+    """A delay of a pin."""
+    delay = number_in(digits, MOST_DELAY)
+    if delay is None:
+        raise Mistake(f"the {what} {shown(digits)} of pin {printable(name)} is over {MOST_DELAY}")
+    return delay
 
 
 def at_most(what, number, most):
@@ -165,9 +184,9 @@ def read_line(drawing, line):
         raise Mistake(f"{shown(line)} is no statement; write input NAME, NAME = KIND(NAME:DELAY, ...) or output NAME")
 
 
-def read_text(text):
+def read_text(text, takes_falls=lambda: True):
     """What a text draws; a Mistake says its line, counted from 1."""
-    drawing = Drawing()
+    drawing = Drawing(takes_falls)
     try:
         for drawing.line, line in enumerate(lines_of(text), 1):
             read_line(drawing, line.partition("#")[0].strip())
@@ -184,10 +203,15 @@ def write_text(netlist, arrivals, names):
     inputs = [f"{name}:{arrival}" if arrival else name for name, arrival in zip(names, arrivals)]
     lines = ["input " + " ".join(inputs)]
     for name, gate in zip(names[netlist.inputs:], netlist.gates):
-        pins = ", ".join(f"{names[pin.driver]}:{pin.delay}" for pin in gate.pins)
+        pins = ", ".join(f"{names[pin.driver]}:{delay_text(pin)}" for pin in gate.pins)
         lines.append(f"{name} = {gate.kind}({pins})")
     lines.append("output " + " ".join(names[node] for node in netlist.outputs))
     return "".join(line + "\n" for line in lines)
+
+
+def delay_text(pin):
+    """A pin's delay, or its two where they differ."""
+    return str(pin.delay) if pin.delay == pin.fall else f"{pin.delay}/{pin.fall}"
 
 
 def plain_names(netlist):
@@ -198,9 +222,9 @@ def plain_names(netlist):
 # Circuits out of files
 
 
-def load(path, library, asked=None):
-    """The circuit in a file, a text or a netlist file, with the arrivals that are asked for beside it. The library
-    alone says whether bytes are a netlist and numbers its arrivals."""
+def load(path, library, asked=None, asked_falls=None):
+    """The circuit in a file, a text or a netlist file, with the arrivals and the fall delays that are asked for beside
+    it. The library alone says whether bytes are a netlist and numbers its arrivals and falls."""
     data = files.read_bytes(path, files.MOST_NETLIST)
     kind = files.kind_of(data)
     if kind in (files.CERTIFICATE, files.FORMULA, files.YOSYS):
@@ -210,6 +234,9 @@ def load(path, library, asked=None):
     if asked is not None:
         circuit = circuit._replace(arrivals=asked_arrivals(asked, circuit))
         check_arrivals(circuit, library)
+    if asked_falls is not None:
+        from .falls import with_asked_falls
+        circuit = with_asked_falls(asked_falls, circuit, library)
     return circuit
 
 
@@ -231,10 +258,11 @@ def load_text(path, data, library):
     if not data.strip():
         raise Slip(f"{files.name_of(path)}: is empty")
     try:
-        drawn = read_text(files.text_of(path, data))
+        drawn = read_text(files.text_of(path, data), library.takes_falls)
     except Mistake as mistake:
         raise Slip(f"{files.name_of(path)}, {mistake}") from None
-    circuit = Circuit(path, write_netlist(drawn.netlist), drawn.netlist, drawn.arrivals, drawn.names, False)
+    circuit = Circuit(path, write_netlist(drawn.netlist), drawn.netlist, drawn.arrivals, drawn.names, False,
+                      falls_of(drawn.netlist))
     check_arrivals(circuit, library, drawn.lines)
     return circuit
 
@@ -247,4 +275,4 @@ def load_netlist(path, data, library):
         refusal.words = f"{files.name_of(path)}: {of_netlist(refusal.number, refusal.place, data)}"
         raise refusal
     netlist = read_netlist(data)
-    return Circuit(path, data, netlist, [0] * netlist.inputs, plain_names(netlist), True)
+    return Circuit(path, data, netlist, [0] * netlist.inputs, plain_names(netlist), True, None)

@@ -11,6 +11,7 @@ import time
 from . import files
 from .arrivals import late_inputs, late_words
 from .circuit import load, plain_names, write_text
+from .falls import all_falls, fall_words
 from .library import Refusal
 from .netlist import longest_path, tops_of
 from .refusals import (FORMULA, LAST, PAIRS, REFUTATION, STEP, TABLE, VECTOR, WITNESS, in_words, named, of_pairs,
@@ -28,7 +29,7 @@ MOST_SECONDS = 10 ** 6
 
 def times(asked, library, say):
     """Values and settling times."""
-    circuit = load(asked.circuit, library, asked.arrivals)
+    circuit = load(asked.circuit, library, asked.arrivals, asked.falls)
     if not asked.vector:
         return all_times(circuit, library, say)
     vector = read_vector(asked.vector, circuit)
@@ -39,27 +40,33 @@ def times(asked, library, say):
     outputs = ", ".join(f"{circuit.names[node]} settles to {settled.values[node]} at {settled.times[node]}"
                         for node in circuit.netlist.outputs)
     chosen = shown_vector(vector, circuit.names)
-    say_late(circuit, say)
+    say_given(circuit, say)
     say.words(f"With {chosen}: {outputs}. The circuit settles at {settled.time}.")
     return 0
 
 
-def say_late(circuit, say):
-    """Which inputs arrive late, where one does."""
-    if late_words(circuit):
-        say.words(late_words(circuit))
+def given_words(circuit):
+    """Which inputs arrive late, where one does, and which pins have two delays."""
+    return [*filter(None, [late_words(circuit), fall_words(circuit)])]
+
+
+def say_given(circuit, say):
+    """The same, said."""
+    for words in given_words(circuit):
+        say.words(words)
 
 
 def path_words(circuit):
     """The longest path in words."""
     counted = ", arrivals counted" if any(circuit.arrivals) else ""
+    counted += ", of two delays the larger" if circuit.falls is not None else ""
     return f"The longest path adds up to {longest_path(circuit.netlist, circuit.arrivals)}{counted}."
 
 
 def settle(circuit, vector, library):
     """What the library says of a vector; a refusal with its cause."""
     try:
-        return library.evaluate(circuit.data, circuit.arrivals, vector)
+        return library.evaluate(circuit.data, circuit.arrivals, vector, circuit.falls)
     except Refusal as refusal:
         if refusal.number == VECTOR:
             refusal.words = of_vector(refusal.place, vector, circuit.names, circuit.netlist.inputs)
@@ -73,12 +80,12 @@ def all_times(circuit, library, say):
         raise Slip(f"{inputs} inputs have too many vectors to list; name one, as {'0' * inputs}")
     largest = 0
     for values in itertools.product((0, 1), repeat=inputs):
-        settled = library.evaluate(circuit.data, circuit.arrivals, bytes(values))
+        settled = library.evaluate(circuit.data, circuit.arrivals, bytes(values), circuit.falls)
         nodes = ", ".join(f"{name} at {moment}" for name, moment
                           in zip(circuit.names[inputs:], settled.times[inputs:]))
         say.answer(f"{shown_vector(values, circuit.names)} settles at {settled.time}" + (f": {nodes}" if nodes else ""))
         largest = max(largest, settled.time)
-    say_late(circuit, say)
+    say_given(circuit, say)
     say.words(f"The largest time is {largest}. {path_words(circuit)}")
     return 0
 
@@ -91,13 +98,13 @@ def formula(asked, library, say):
     from .formulas import Meanings, dimacs
     files.check_free(asked.output, asked.force)
     target = asked_number(asked.target, "a target")
-    circuit = load(asked.circuit, library, asked.arrivals)
+    circuit = load(asked.circuit, library, asked.arrivals, asked.falls)
     built = build(circuit, target, library)
-    meanings = Meanings(circuit.names, built.pairs)
-    comments = [*filter(None, [late_words(circuit)]), *meanings.comments()] if asked.names else ()
+    meanings = Meanings(circuit.names, built.pairs, circuit.falls is not None)
+    comments = [*given_words(circuit), *meanings.comments()] if asked.names else ()
     say.write(dimacs(built, comments).encode(), asked.output, asked.force)
     if not asked.names:
-        say_late(circuit, say)
+        say_given(circuit, say)
         say.words(meanings.in_short())
     return 0
 
@@ -106,7 +113,7 @@ def build(circuit, target, library):
     """A formula, or the refusal with its cause."""
     from .search import count_pairs
     try:
-        return library.build(circuit.data, circuit.arrivals, target)
+        return library.build(circuit.data, circuit.arrivals, target, circuit.falls)
     except Refusal as refusal:
         if refusal.number == PAIRS:
             tops = tops_of(circuit.netlist, circuit.arrivals)
@@ -164,9 +171,9 @@ def judge(asked, library, say):
         raise Slip("name a certificate, or else --delay, --vector and --refutation")
     if asked.certificate is None and None in parts:
         raise Slip("without a certificate --delay, --vector and --refutation are needed, all three")
-    circuit = load(asked.circuit, library, asked.arrivals)
+    circuit = load(asked.circuit, library, asked.arrivals, asked.falls)
     if asked.certificate is not None:
-        delay, vector, refutation = from_certificate(asked.certificate, circuit)
+        delay, vector, refutation = from_certificate(asked.certificate, circuit, library)
     else:
         from .refutations import read_refutation
         delay, vector = asked_number(asked.delay, "a delay"), read_vector(asked.vector, circuit)
@@ -174,17 +181,18 @@ def judge(asked, library, say):
         say_if_empty(refutation, say)
     judged(circuit, delay, vector, refutation, library)
     say.answer("accepted")
-    say_late(circuit, say)
+    say_given(circuit, say)
     say.words(true_delay_words(delay))
     return 0
 
 
-def from_certificate(path, circuit):
+def from_certificate(path, circuit, library):
     """The parts of a certificate that is for a circuit."""
-    from .certificates import check_arrivals, check_digest, read_certificate, vector_for
-    certificate = read_certificate(path)
+    from .certificates import check_arrivals, check_digest, check_falls, read_certificate, vector_for
+    certificate = read_certificate(path, library.takes_falls)
     check_digest(certificate, circuit)
     check_arrivals(certificate, circuit)
+    check_falls(certificate, circuit)
     return certificate.delay, vector_for(certificate, circuit), certificate.refutation
 
 
@@ -196,7 +204,7 @@ def true_delay_words(delay):
 def judged(circuit, delay, vector, refutation, library):
     """The library's verdict; a refusal with its cause."""
     try:
-        library.judge(circuit.data, circuit.arrivals, delay, vector, refutation.numbers)
+        library.judge(circuit.data, circuit.arrivals, delay, vector, refutation.numbers, circuit.falls)
     except Refusal as refusal:
         tell_judgement(refusal, circuit, delay, vector, refutation, library)
         raise
@@ -213,7 +221,7 @@ def tell_judgement(refusal, circuit, delay, vector, refutation, library):
     elif refusal.number in (PAIRS, REFUTATION, LAST, STEP):
         built = build(circuit, delay + 1, library)
         refusal.words = of_refutation(refusal.number, refusal.place, refutation, built.variables,
-                                      Meanings(circuit.names, built.pairs))
+                                      Meanings(circuit.names, built.pairs, circuit.falls is not None))
 
 
 # The search
@@ -257,8 +265,8 @@ def one_delay(path, output, asked, solver, limit, library, say):
     """Find one circuit's certificate and have it judged."""
     from .search import MOST_TRIED_INPUTS, by_solver, by_trying
     began = time.monotonic()
-    circuit, ran = load(path, library, asked.arrivals), None
-    say_late(circuit, say)
+    circuit, ran = load(path, library, asked.arrivals, asked.falls), None
+    say_given(circuit, say)
     say.words(path_words(circuit))
     if solver:
         found, ran = by_solver(circuit, library, solver, say.progress, limit)
@@ -286,7 +294,7 @@ def one_delay(path, output, asked, solver, limit, library, say):
 def accept_found(circuit, found, library):
     """The library's verdict on what was found. A refusal is the finder's fault, not the asker's."""
     try:
-        library.judge(circuit.data, circuit.arrivals, found.delay, found.vector, found.refutation)
+        library.judge(circuit.data, circuit.arrivals, found.delay, found.vector, found.refutation, circuit.falls)
     except Refusal as refusal:
         raise OfTheMachine(f"what was found by {found.by} is refused: {refusal.words}") from None
 
@@ -305,15 +313,15 @@ def figures(seconds, ran, found):
 def explain_refusal(asked, _library, say):
     """A refusal in words."""
     words = [word for word in " ".join(asked.words).split() if word != "refused"]
-    if len(words) == 1 and words[0].upper() in [row[0] for row in TABLE]:
-        words = [str([row[0] for row in TABLE].index(words[0].upper()) + 1)]
+    if len(words) == 1:
+        words = [str(number) for number, row in TABLE.items() if row[0] == words[0].upper()] or words
     numbers = [number_in(word, 2 ** 64 - 1) for word in words]
     if None in numbers or not 1 <= len(numbers) <= 2:
         raise Slip('write the line that was printed, as: buzzlumen explain-refusal "refused 15 1"')
-    if not 1 <= numbers[0] <= len(TABLE):
-        raise Slip(f"{numbers[0]} is no refusal; the table goes from 1 to {len(TABLE)}")
+    if numbers[0] not in TABLE:
+        raise Slip(f"{numbers[0]} is no refusal; the table goes from 1 to {max(TABLE)}")
     if len(numbers) == 1:
-        name, when, what = TABLE[numbers[0] - 1]
+        name, when, what = TABLE[numbers[0]]
         say.answer(f"{name}: {when}." + (f" Its place is {what}." if what else ""))
     else:
         say.answer(in_words(*numbers))
@@ -323,26 +331,35 @@ def explain_refusal(asked, _library, say):
 def netlist(asked, library, say):
     """A circuit in the other form, or in the form that is asked for."""
     files.check_free(asked.output, asked.force)
-    circuit = load(asked.circuit, library, asked.arrivals)
+    circuit = load(asked.circuit, library, asked.arrivals, asked.falls)
     if asked.bytes or not (asked.text or circuit.plain):
         say.write_netlist(circuit.data, asked.output, asked.force)
         if any(circuit.arrivals):
             late = ",".join(late_inputs(plain_names(circuit.netlist), circuit.arrivals))
             say.words(f"A netlist file holds no arrivals; beside this one give --arrivals {late}.")
+        say_falls_left(circuit.netlist, circuit.falls, say)
     else:
         text = write_text(circuit.netlist, circuit.arrivals, circuit.names)
         say.write(text.encode(), asked.output, asked.force)
     return 0
 
 
+def say_falls_left(drawn, falls, say):
+    """That a netlist file leaves the fall delays out, where there are some."""
+    if falls is not None:
+        row = ",".join(map(str, all_falls(drawn)))
+        say.words(f"A netlist file holds no fall delays; beside this one give --falls {row}.")
+
+
 def from_yosys(asked, _library, say):
     """The circuit of a block."""
-    from .netlist import write_netlist
+    from .netlist import falls_of, write_netlist
     from .yosys import convert
     files.check_free(asked.output, asked.force)
     drawn = convert(asked.block, asked.top, asked.delays)
     if asked.bytes:
         say.write_netlist(write_netlist(drawn.netlist), asked.output, asked.force)
+        say_falls_left(drawn.netlist, falls_of(drawn.netlist), say)
     else:
         say.write(write_text(drawn.netlist, drawn.arrivals, drawn.names).encode(), asked.output, asked.force)
     return 0

@@ -114,15 +114,17 @@ def dimacs(built, comments=()):
 
 
 class Meanings:
-    """What the variables of a circuit's formula mean: the nodes, then the pairs."""
+    """What the variables of a circuit's formula mean: the nodes, then the pairs, which are node and time, or node,
+    value and time where rise and fall are apart."""
 
-    def __init__(self, names, pairs):
-        self.names, self.pairs = names, pairs
+    def __init__(self, names, pairs, apart=False):
+        self.names, self.pairs, self.width = names, pairs, 3 if apart else 2
 
     def pair(self, number):
-        """The node's name and the time of a pair's variable."""
-        place = number - len(self.names) - 1
-        return self.names[self.pairs[2 * place]], self.pairs[2 * place + 1]
+        """The node's name of a pair's variable, and its time in words, with its value where it has one."""
+        place = self.width * (number - len(self.names) - 1)
+        node, *value, time = self.pairs[place:place + self.width]
+        return self.names[node], f"{time} with value {value[0]}" if value else str(time)
 
     def of(self, variable):
         """A variable in words."""
@@ -142,12 +144,12 @@ class Meanings:
 
     def comments(self):
         """Every variable's meaning, as comment lines."""
-        for variable in range(1, len(self.names) + len(self.pairs) // 2 + 1):
+        for variable in range(1, len(self.names) + len(self.pairs) // self.width + 1):
             yield f"variable {variable}: {self.of(variable)}"
 
     def in_short(self):
         """The meanings in one sentence or two; the pairs as far as there are few."""
-        count = len(self.pairs) // 2
+        count = len(self.pairs) // self.width
         first = len(self.names) + 1
         said = [f"{variable}: {self.of(variable)}" for variable in range(first, first + min(count, MOST_SAID))]
         if count > MOST_SAID:

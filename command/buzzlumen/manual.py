@@ -12,9 +12,11 @@ n4 = OR(n3:1, b:1)
 output n4"""
 ABOUT_CIRCUITS = """One statement a line; # starts a comment. Inputs come first. Behind an input's name may stand a
 colon and its arrival, 0 to 9999; the others arrive at 0. A pin is the name of an input or of a gate on a line above, a
-colon and the pin's delay, 0 to 999. The kinds are BUF NOT AND NAND OR NOR XOR XNOR MUX; MUX takes its pins as select,
-a, b. A name is any run of printable characters but blanks and ( ) , : = #. A netlist file holds neither names nor
-arrivals: its nodes are called n0, n1 and so on, and its inputs arrive at 0 unless --arrivals says when."""
+colon and the pin's delay, 0 to 999; or two, as a:3/5, 3 for a gate that ends at 1 and 5 for one that ends at 0. The
+kinds are BUF NOT AND NAND OR NOR XOR XNOR MUX; MUX takes its pins as select, a, b. A name is any run of printable
+characters but blanks and ( ) , : = #. A netlist file holds neither names nor arrivals nor fall delays: its nodes are
+called n0, n1 and so on, its inputs arrive at 0 unless --arrivals says when, and every pin falls as it rises unless
+--falls says how."""
 FILES = (
     ("target/command/host", "in the tree: the program over the library, built when it is missing"),
     ("/usr/lib/buzzlumen", "installed: the command's parts and that program"),

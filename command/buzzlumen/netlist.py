@@ -1,6 +1,8 @@
 """A netlist as data, and the bytes of its file (docs/RULES.md, "The netlist file").
 
-What is read here is only for showing and searching; whether the bytes are a netlist is the library's word alone.
+What is read here is only for showing and searching; whether the bytes are a netlist is the library's word alone. A
+pin has two delays here: its own, which the file holds, for a gate that ends at 1, and its fall delay for a gate that
+ends at 0, which stands beside the file. Where nothing else is said, the second is the first.
 """
 
 import struct
@@ -14,7 +16,7 @@ TRAILER = struct.Struct("<IHHHHH")
 MOST_INPUTS, MOST_GATES, MOST_PINS, MOST_OUTPUTS, MOST_DELAY, MOST_ARRIVAL = 64, 448, 2048, 64, 999, 9999
 VERSION = 1
 
-Pin = namedtuple("Pin", "driver delay")
+Pin = namedtuple("Pin", "driver delay fall")
 Gate = namedtuple("Gate", "kind pins")
 Netlist = namedtuple("Netlist", "inputs gates outputs")
 
@@ -40,7 +42,7 @@ def read_netlist(data):
     back, inputs, gate_count, pin_count, output_count, _ = TRAILER.unpack_from(data, end)
     tables = data[end - back:end]
     pin_table, output_table = 4 * gate_count, 4 * (gate_count + pin_count)
-    pins = list(map(Pin._make, struct.iter_unpack("<HH", tables[pin_table:output_table])))
+    pins = [Pin(driver, delay, delay) for driver, delay in struct.iter_unpack("<HH", tables[pin_table:output_table])]
     gates = [Gate(KINDS[kind - 1], pins[first:first + count])
              for kind, count, first in struct.iter_unpack("<BBH", tables[:pin_table])]
     return Netlist(inputs, gates, list(struct.unpack_from(f"<{output_count}H", tables, output_table)))
@@ -54,11 +56,29 @@ def looks_like_netlist(data):
     return version == VERSION and back == 4 * gates + 4 * pins + 2 * outputs and inputs > 0
 
 
+def falls_of(netlist):
+    """The fall delays of all pins in order; None where each is the pin's own delay."""
+    falls = [pin.fall for gate in netlist.gates for pin in gate.pins]
+    return falls if falls != [pin.delay for gate in netlist.gates for pin in gate.pins] else None
+
+
+def with_falls(netlist, falls):
+    """The netlist with these fall delays, one for each pin in order."""
+    rest = iter(falls)
+    gates = [Gate(gate.kind, [pin._replace(fall=next(rest)) for pin in gate.pins]) for gate in netlist.gates]
+    return Netlist(netlist.inputs, gates, netlist.outputs)
+
+
+def pin_count(netlist):
+    """The pins of all gates together."""
+    return sum(len(gate.pins) for gate in netlist.gates)
+
+
 def tops_of(netlist, arrivals):
-    """The longest sum of delays to each node, an input's arrival counted."""
+    """The longest sum of delays to each node, of each pin the larger one, an input's arrival counted."""
     tops = list(arrivals)
     for gate in netlist.gates:
-        tops.append(max(tops[pin.driver] + pin.delay for pin in gate.pins))
+        tops.append(max(tops[driver] + (delay if delay > fall else fall) for driver, delay, fall in gate.pins))
     return tops
 
 

@@ -9,28 +9,31 @@ import struct
 from .netlist import KINDS, MOST_ARRIVAL, MOST_DELAY, PIN_COUNTS, TRAILER
 from .words import count
 
-# Each row: the refusal's name, when it is given, what its place is (nothing where it is always 0).
-TABLE = (
-    ("SHORT", "fewer than 14 bytes", "the length"),
-    ("VERSION", "the version isn't 1", "the version"),
-    ("COUNT", "inputs, gates, pins or outputs outside their range", "the first such, from 0 to 3"),
-    ("BACK", "back isn't 4G+4P+2Q or exceeds the length less 14", None),
-    ("GATE", "unknown kind, pin count or first pin wrong, or final sum isn't P", "the gate, or G for the sum"),
-    ("PIN", "driver not below its gate, or delay over 999", "the pin"),
-    ("OUTPUT", "outputs not rising, or no such node", "its position"),
-    ("VECTOR", "not one byte for each input, or a byte over 1", "the number of inputs, or the byte's position"),
-    ("ROOM", "a lent slice is shorter than needed", "the length needed"),
-    ("PAIRS", "over 65,536 pairs, or more than the lent table has room for", None),
-    ("FORMULA", "V over 100,000, or a literal over V, or last number not 0", "0, or its index, or the length"),
-    ("REFUTATION", "a literal over V, or empty, or last number not 0", "its index, or the length"),
-    ("LAST", "an empty clause before the last, or none", "that clause, or the number of clauses"),
-    ("STEP", "a clause doesn't follow", "the first such clause, counted from 0"),
-    ("WITNESS", "the vector doesn't settle at the claimed delay", "the time it does settle at"),
-    ("ARRIVAL", "not one arrival for each input, or an arrival over 9,999",
-     "the number of inputs, or the arrival's position"),
-)
 (SHORT, VERSION, COUNT, BACK, GATE, PIN, OUTPUT, VECTOR, ROOM, PAIRS, FORMULA, REFUTATION, LAST, STEP, WITNESS,
- ARRIVAL) = range(1, len(TABLE) + 1)
+ ARRIVAL) = range(1, 17)
+FALL = 19
+
+# Each row by its number: the refusal's name, when it is given, what its place is (nothing where it is always 0).
+TABLE = {
+    SHORT: ("SHORT", "fewer than 14 bytes", "the length"),
+    VERSION: ("VERSION", "the version isn't 1", "the version"),
+    COUNT: ("COUNT", "inputs, gates, pins or outputs outside their range", "the first such, from 0 to 3"),
+    BACK: ("BACK", "back isn't 4G+4P+2Q or exceeds the length less 14", None),
+    GATE: ("GATE", "unknown kind, pin count or first pin wrong, or final sum isn't P", "the gate, or G for the sum"),
+    PIN: ("PIN", "driver not below its gate, or delay over 999", "the pin"),
+    OUTPUT: ("OUTPUT", "outputs not rising, or no such node", "its position"),
+    VECTOR: ("VECTOR", "not one byte for each input, or a byte over 1", "the number of inputs, or the byte's position"),
+    ROOM: ("ROOM", "a lent slice is shorter than needed", "the length needed"),
+    PAIRS: ("PAIRS", "over 65,536 pairs, or more than the lent table has room for", None),
+    FORMULA: ("FORMULA", "V over 100,000, or a literal over V, or last number not 0", "0, or its index, or the length"),
+    REFUTATION: ("REFUTATION", "a literal over V, or empty, or last number not 0", "its index, or the length"),
+    LAST: ("LAST", "an empty clause before the last, or none", "that clause, or the number of clauses"),
+    STEP: ("STEP", "a clause doesn't follow", "the first such clause, counted from 0"),
+    WITNESS: ("WITNESS", "the vector doesn't settle at the claimed delay", "the time it does settle at"),
+    ARRIVAL: ("ARRIVAL", "not one arrival for each input, or an arrival over 9,999",
+              "the number of inputs, or the arrival's position"),
+    FALL: ("FALL", "not one fall delay for each pin, or one over 999", "the number of pins, or the delay's position"),
+}
 
 COUNTED = (("input", 1, 64), ("gate", 0, 448), ("pin", 0, 2048), ("output", 1, 64))
 MOST_PAIRS = 65536
@@ -38,13 +41,13 @@ MOST_PAIRS = 65536
 
 def in_words(number, place):
     """A refusal by itself, as a person says it."""
-    name, when, what = TABLE[number - 1]
+    name, when, what = TABLE[number]
     return f"{name}: {when}." + (f" Place {place} is {what}." if what else "")
 
 
 def named(number, cause):
     """A refusal's name and its cause."""
-    return f"{TABLE[number - 1][0]}: {cause}."
+    return f"{TABLE[number][0]}: {cause}."
 
 
 # Refusals of a netlist file
@@ -124,6 +127,13 @@ def of_arrivals(place, arrivals, names, inputs):
     if len(arrivals) != inputs:
         return named(ARRIVAL, f"{count(len(arrivals), 'arrival')} for {count(inputs, 'input')}")
     return named(ARRIVAL, f"input {names[place]} arrives at {arrivals[place]}, the latest is {MOST_ARRIVAL}")
+
+
+def of_falls(place, falls, pins):
+    """Why fall delays are refused."""
+    if len(falls) != pins:
+        return named(FALL, f"{count(len(falls), 'fall delay')} for {count(pins, 'pin')}")
+    return named(FALL, f"pin {place} has the fall delay {falls[place]}, over {MOST_DELAY}")
 
 
 def of_vector(place, vector, names, inputs):

@@ -1,7 +1,7 @@
 """Finds a certificate: the largest settling time, a vector that reaches it, and a refutation of anything later.
 
-A circuit settles only at sums of an arrival and the delays along a path, so these are the times in question. The
-search goes down from the longest path by growing steps, because the formulas near it are small, until some vector is as
+A circuit settles only at sums of an arrival and the delays along a path, of two delays either, so these are the times
+in question. The search goes down from the longest path by growing steps, because the formulas near it are small, until some vector is as
 late; then by halves. A target whose formula holds more pairs than the library takes is asked output by output, each
 with the gates that it rests on. Without a solver, a circuit of at most 12 inputs is tried vector by vector, and the
 refutation fixes the inputs one after the other. Nothing here is trusted: what is found counts once the library has
@@ -13,7 +13,7 @@ from collections import namedtuple
 
 from .library import Refusal
 from .machine import FolderForAWhile
-from .netlist import Gate, Netlist, Pin, longest_path, tops_of, write_netlist
+from .netlist import Gate, Netlist, falls_of, longest_path, tops_of, write_netlist
 from .refusals import MOST_PAIRS, PAIRS, of_pairs
 from .solvers import Solver, read_steps
 from .trouble import OfTheMachine
@@ -36,8 +36,10 @@ def possible_times(netlist, arrivals):
     sums = [1 << arrival for arrival in arrivals]
     for gate in netlist.gates:
         own = 0
-        for pin in gate.pins:
-            own |= sums[pin.driver] << pin.delay
+        for driver, delay, fall in gate.pins:
+            own |= sums[driver] << delay
+            if fall != delay:
+                own |= sums[driver] << fall
         sums.append(own)
     times = 0
     for node in netlist.outputs:
@@ -46,7 +48,7 @@ def possible_times(netlist, arrivals):
 
 
 def count_pairs(netlist, tops, target):
-    """How many pairs the formula for a target has."""
+    """How many pairs the formula for a target has: where rise and fall are apart, two for each node and time."""
     asked, pairs = [0] * len(tops), 0
     for node in netlist.outputs:
         asked[node] = 1 << target
@@ -54,9 +56,16 @@ def count_pairs(netlist, tops, target):
         own = asked[node] & ((2 << tops[node]) - 2)
         pairs += own.bit_count()
         if own:
-            for pin in netlist.gates[node - netlist.inputs].pins:
-                asked[pin.driver] |= own >> pin.delay
-    return pairs
+            for driver, delay, fall in netlist.gates[node - netlist.inputs].pins:
+                asked[driver] |= own >> delay
+                if fall != delay:
+                    asked[driver] |= own >> fall
+    return pairs * rails(netlist)
+
+
+def rails(netlist):
+    """How many pairs a node has at a time: one for each value where rise and fall are apart."""
+    return 1 if falls_of(netlist) is None else 2
 
 
 def cone(netlist, output):
@@ -70,7 +79,7 @@ def cone(netlist, output):
     for node in sorted(inside - set(number_of)):
         gate = netlist.gates[node - netlist.inputs]
         number_of[node] = netlist.inputs + len(gates)
-        gates.append(Gate(gate.kind, [Pin(number_of[pin.driver], pin.delay) for pin in gate.pins]))
+        gates.append(Gate(gate.kind, [pin._replace(driver=number_of[pin.driver]) for pin in gate.pins]))
     return Netlist(netlist.inputs, gates, [number_of[output]])
 
 
@@ -86,7 +95,7 @@ class Search:
         self.solver, self.progress = solver, progress
         self.times = possible_times(self.netlist, self.arrivals)
         self.place_of = {time: place for place, time in enumerate(self.times)}
-        self.tops = tops_of(self.netlist, self.arrivals)
+        self.tops, self.rails = tops_of(self.netlist, self.arrivals), rails(self.netlist)
         self.known_parts, self.known_cones = {}, []
         self.low, self.high, self.vector = -1, len(self.times), None
         # The file of the refutation at times[high]; None where it was refuted output by output.
@@ -95,7 +104,7 @@ class Search:
     def reach(self, *vectors):
         """Vectors settle at some times: take the latest of them where it is later than all before; gives whether it
         is."""
-        times = self.library.times_of(self.circuit.data, self.arrivals, vectors)
+        times = self.library.times_of(self.circuit.data, self.arrivals, vectors, self.circuit.falls)
         place = self.place_of[max(times)]
         if place > self.low:
             self.low, self.vector = place, vectors[times.index(max(times))]
@@ -125,7 +134,7 @@ class Search:
     def find_parts(self, target):
         """The same for a target, by counting pairs."""
         gate_tops = self.tops[self.netlist.inputs:]
-        if sum(gate_tops) <= MOST_PAIRS or count_pairs(self.netlist, self.tops, target) <= MOST_PAIRS:
+        if sum(gate_tops) * self.rails <= MOST_PAIRS or count_pairs(self.netlist, self.tops, target) <= MOST_PAIRS:
             return [self.netlist]
         cones = [each for each in self.cones() if longest_path(each, self.arrivals) >= target]
         if all(self.pairs_of(each, target) <= MOST_PAIRS for each in cones):
@@ -166,8 +175,7 @@ class Search:
         for netlist in parts:
             self.progress.show(f"asking for T={target}; the delay is {self.times[self.low]} to "
                                f"{self.times[self.high - 1]}")
-            data = self.circuit.data if netlist is self.netlist else write_netlist(netlist)
-            answer = self.answer(data, target)
+            answer = self.answer(netlist, target)
             if answer.has_model:
                 if not self.reach(answer.vector) or self.low < place:
                     raise OfTheMachine(f"{self.solver.name} gave a model for T={target} that does not settle there")
@@ -176,9 +184,11 @@ class Search:
         self.refuted = answer.refutation if parts[0] is self.netlist else None
         return False
 
-    def answer(self, data, target):
+    def answer(self, netlist, target):
         """The solver's answer to a netlist's formula."""
-        self.library.write_formula(data, self.arrivals, target, self.solver.path("formula"))
+        own = netlist is self.netlist
+        data, falls = (self.circuit.data, self.circuit.falls) if own else (write_netlist(netlist), falls_of(netlist))
+        self.library.write_formula(data, self.arrivals, target, self.solver.path("formula"), falls)
         return self.solver.ask(self.netlist.inputs)
 
     def run(self):
@@ -198,7 +208,7 @@ class Search:
         target = self.target(place)
         for netlist in self.cones():
             if longest_path(netlist, self.arrivals) >= target and self.pairs_of(netlist, target) <= MOST_PAIRS:
-                answer = self.answer(write_netlist(netlist), target)
+                answer = self.answer(netlist, target)
                 if answer.has_model and self.reach(answer.vector):
                     return True
         return False
@@ -226,8 +236,8 @@ def smaller(library, circuit, delay, vector):
     """A vector that settles at the delay too, with a 0 for as many of its 1 as go one after the other; of few inputs
     the first one in order."""
     if circuit.netlist.inputs <= MOST_ORDERED_INPUTS:
-        return library.walk(circuit.data, circuit.arrivals, delay)[1]
-    return library.fewer_ones(circuit.data, circuit.arrivals, delay, vector)
+        return library.walk(circuit.data, circuit.arrivals, delay, circuit.falls)[1]
+    return library.fewer_ones(circuit.data, circuit.arrivals, delay, vector, circuit.falls)
 
 
 def by_solver(circuit, library, name, progress, limit=None):
@@ -246,7 +256,7 @@ def shortened(library, circuit, delay, steps):
     """A refutation of the formula for the delay + 1 without the steps that it does not need."""
     if len(steps) == 1:
         return steps
-    return library.shorten_for(circuit.data, circuit.arrivals, delay + 1, steps)
+    return library.shorten_for(circuit.data, circuit.arrivals, delay + 1, steps, circuit.falls)
 
 
 # By trying
@@ -254,7 +264,7 @@ def shortened(library, circuit, delay, steps):
 
 def by_trying(circuit, library):
     """A certificate, by trying every vector."""
-    delay, vector = library.walk(circuit.data, circuit.arrivals)
+    delay, vector = library.walk(circuit.data, circuit.arrivals, falls=circuit.falls)
     steps = array.array("i", tree(circuit.netlist.inputs, []))
     try:
         refutation = shortened(library, circuit, delay, steps)
