@@ -12,6 +12,9 @@
  * Assumes a little endian machine and input from tests/compare.py: it ends with 2 where that breaks off inside a call.
  */
 #include "buzzlumen.h"
+#ifdef RISE_FALL
+#include "rise_fall.h"
+#endif
 
 #include <stdio.h>
 #include <stdlib.h>
@@ -189,17 +192,6 @@ static void judge(void)
 }
 
 #ifdef RISE_FALL
-/* As the header has them: one that says otherwise does not compile with these. */
-buzzlumen_evaluated buzzlumen_evaluate_rise_fall(const uint8_t *, size_t, const uint32_t *, size_t,
-                                                 const uint32_t *, size_t, const uint8_t *, size_t,
-                                                 uint8_t *, size_t, uint32_t *, size_t);
-buzzlumen_built buzzlumen_build_rise_fall(const uint8_t *, size_t, const uint32_t *, size_t, const uint32_t *, size_t,
-                                          uint32_t, uint32_t *, size_t, int32_t *, size_t);
-buzzlumen_judged buzzlumen_judge_rise_fall(const uint8_t *, size_t, const uint32_t *, size_t, const uint32_t *, size_t,
-                                           uint32_t, const uint8_t *, size_t, const int32_t *, size_t,
-                                           uint8_t *, size_t, uint32_t *, size_t, uint32_t *, size_t,
-                                           int32_t *, size_t, uint8_t *, size_t);
-
 static void evaluate_rise_fall(void)
 {
     slice *netlist = take_slice(1), *arrivals = take_slice(4), *falls = take_slice(4), *vector = take_slice(1);

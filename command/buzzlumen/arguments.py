@@ -7,8 +7,8 @@ without argparse. `add` gives what has argparse's calls for a subcommand's argum
 CIRCUIT_HELP = "a circuit: its text or a netlist file, known by its content; - is standard input"
 ARRIVALS_HELP = ("when inputs arrive: b=25,c=3 sets these and leaves the others as the text has them, 0,25,3 sets all; "
                  "in a netlist file all arrive at 0")
-FALLS_HELP = ("the delay of each pin for a gate that ends at 0, in the pins' order: 5,1,1; else as the text has it, and "
-              "in a netlist file as the pin's own")
+FALLS_HELP = ("the delay of each pin for a gate that ends at 0, in the pins' order: 5,1,1; else as the text has it, "
+              "and in a netlist file the pin's own")
 
 
 def add_arrivals(parser):
@@ -105,7 +105,8 @@ def add_from_yosys(add):
                  "A block with flip-flops: before abc -g gates, cut them into inputs and outputs by\n"
                  "  dffunmap; expose -evert-dff;")
     parser.add_argument("block", metavar="JSON", help="what yosys's write_json wrote")
-    parser.add_argument("--delays", metavar="FILE", help="a table: a cell and a delay, or a cell, a pin and a delay")
+    parser.add_argument("--delays", metavar="FILE",
+                        help="a table: a cell and a delay, or a cell, a pin and a delay; a delay is as 3 or as 3/5")
     parser.add_argument("--top", metavar="MODULE", help="the module, where yosys marked none as top")
     parser.add_argument("--bytes", action="store_true", help="write a netlist file, not text")
     add_output(parser, "the circuit")

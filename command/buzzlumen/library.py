@@ -14,7 +14,7 @@ import sys
 from collections import namedtuple
 
 from .machine import FolderForAWhile, Process, on_path
-from .refusals import ROOM, VECTOR, in_words
+from .refusals import ROOM, TABLE, VECTOR, in_words
 from .trouble import OfTheMachine, Refused
 
 (EVALUATE, BUILD, CHECK, JUDGE, SHORTEN, WALK, WRITE_FORMULA, SHORTEN_FOR, TIMES_OF, FEWER_ONES,
@@ -128,8 +128,8 @@ def build(program):
             if ended.returncode:
                 raise OfTheMachine(f"the host program does not build: {last_line(ended.stderr)}")
             if not answers_rightly(made):
-                raise OfTheMachine(f"the library's archive {ARCHIVE} does not answer as {HEADER} says: it is of another "
-                                   f"state of the tree. {REBUILD_ANEW}")
+                raise OfTheMachine(f"the library's archive {ARCHIVE} does not answer as {HEADER} says: it is of "
+                                   f"another state of the tree. {REBUILD_ANEW}")
             os.replace(made, program)
     except OSError as error:
         raise OfTheMachine(f"the host program cannot be built as {program}: {error.strerror}") from None
@@ -177,7 +177,7 @@ def answers_rightly(program):
     try:
         with Library(program) as library:
             return tried(library, None) and (not library.takes_falls() or tried(library, (3, 1, 1, 1, 1)))
-    except (OfTheMachine, Refusal, ValueError, MemoryError, struct.error):
+    except (OfTheMachine, Refusal, ValueError, OverflowError, MemoryError):
         return False
 
 
@@ -439,5 +439,7 @@ class Library:
 
 def accept(refusal, place):
     """Nothing, where the library accepts."""
+    if refusal and refusal not in TABLE:
+        raise OfTheMachine(f"the library refuses by the number {refusal}, which this command does not know")
     if refusal:
         raise Refusal(refusal, place)

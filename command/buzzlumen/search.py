@@ -1,11 +1,11 @@
 """Finds a certificate: the largest settling time, a vector that reaches it, and a refutation of anything later.
 
 A circuit settles only at sums of an arrival and the delays along a path, of two delays either, so these are the times
-in question. The search goes down from the longest path by growing steps, because the formulas near it are small, until some vector is as
-late; then by halves. A target whose formula holds more pairs than the library takes is asked output by output, each
-with the gates that it rests on. Without a solver, a circuit of at most 12 inputs is tried vector by vector, and the
-refutation fixes the inputs one after the other. Nothing here is trusted: what is found counts once the library has
-judged it.
+in question. The search goes down from the longest path by growing steps, because the formulas near it are small, until
+some vector is as late; then by halves. A target whose formula holds more pairs than the library takes is asked output
+by output, each with the gates that it rests on. Without a solver, a circuit of at most 12 inputs is tried vector by
+vector, and the refutation fixes the inputs one after the other. Nothing here is trusted: what is found counts once the
+library has judged it.
 """
 
 import array

@@ -1,9 +1,9 @@
 """The circuit of a block that yosys mapped to simple gates, out of its JSON.
 
 Without a table of delays every pin has delay 1. In the table a line is a cell and the delay of its pins, or a cell, one
-of its pins and that pin's delay; `#` starts a comment. The inverted pin of $_ANDNOT_ and $_ORNOT_ becomes a NOT of
-delay 0, a constant a gate of delay 0 over the first input. Cells that keep state and feedback loops are turned away:
-a block's delay is that of the logic between its flip-flops.
+of its pins and that pin's delay; a delay may be two, for rising and for falling, as 3/5; `#` starts a comment. The
+inverted pin of $_ANDNOT_ and $_ORNOT_ becomes a NOT of delay 0, a constant a gate of delay 0 over the first input.
+Cells that keep state and feedback loops are turned away: a block's delay is that of the logic between its flip-flops.
 """
 
 import json
@@ -184,12 +184,18 @@ def read_delays(path):
         if not words:
             continue
         pins = [pin.lstrip("!") for pin in CELLS[words[0]][1]] if words[0] in CELLS else []
-        delay = number_in(words[-1], MOST_DELAY)
+        delay = delay_word(words[-1])
         if not pins or len(words) not in (2, 3) or delay is None or not set(words[1:-1]) <= set(pins):
             raise Slip(f"{files.name_of(path)}, line {number}: {shown(line)} is no cell and delay from 0 to "
                        f"{MOST_DELAY}, nor cell, pin and delay")
         delays[tuple(words[:-1])] = delay
     return delays
+
+
+def delay_word(word):
+    """A delay as a circuit's text has it, one number or two with a slash between; None where it is no such."""
+    numbers = [number_in(part, MOST_DELAY) for part in word.split("/", 1)]
+    return None if None in numbers else "/".join(map(str, numbers))
 
 
 def delay_of(delays, cell_type, pin):

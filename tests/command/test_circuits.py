@@ -18,8 +18,6 @@ MISTAKES = (
     ("input a\nb = BUF(a)\n", "line 2: `a` is no pin; a pin is a name, a colon and a delay, as b:1"),
     ("input a\nb = BUF(a:1000)\n", "line 2: the delay `1000` of pin a is over 999"),
     ("input a\nb = BUF(a:x)\n", "line 2: `a:x` is no pin; a pin is a name, a colon and a delay, as b:1"),
-    ("input a\nb = BUF(a:3/5)\n",
-     "line 2: `a:3/5`: a delay for rising and one for falling are not read yet; write one"),
     ("input a b:\n",
      "line 1: `b:`: an arrival is a number from 0 to 9999 right behind the colon, as b:25"),
     ("input a\ninput b:-3\n",
@@ -137,7 +135,7 @@ class Circuits(Asking):
 
     def test_table(self):
         """The table of refusals has the rules' names at the rules' numbers."""
-        for number, (name, _, _) in enumerate(refusals.TABLE, 1):
+        for number, (name, _, _) in refusals.TABLE.items():
             self.assertEqual(number, getattr(document, name))
 
     def test_vectors(self):

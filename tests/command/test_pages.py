@@ -60,7 +60,7 @@ class Pages(Asking):
         for line, wanted in (("buzzlumen ti", ["times"]), ("buzzlumen delay --so", ["--solver"]),
                              ("buzzlumen delay --solver c", ["cadical"]),
                              (f"buzzlumen times {COURSE}/circuit_a", [f"{COURSE}/circuit_a.txt"]),
-                             ("buzzlumen judge --", ["--delay", "--vector", "--refutation", "--arrivals",
+                             ("buzzlumen judge --", ["--delay", "--vector", "--refutation", "--arrivals", "--falls",
                                                       "--help"])):
             words = line.split(" ")
             program = (f"source {script}; COMP_WORDS=({' '.join(words)}); COMP_CWORD={len(words) - 1}; _buzzlumen; "
@@ -71,7 +71,7 @@ class Pages(Asking):
 
     def test_explain_refusal(self):
         """Each refusal in words, by its line, its numbers or its name."""
-        for number, (name, when, _) in enumerate(refusals.TABLE, 1):
+        for number, (name, when, _) in refusals.TABLE.items():
             for words in ((f"refused {number} 3",), ("refused", str(number), "3"), (str(number), "3"), (str(number),),
                           (name,), (name.lower(),)):
                 self.assertTrue(self.ask("explain-refusal", *words).out.startswith(f"{name}: {when}."))

@@ -18,13 +18,14 @@ from document import write_netlist
 COMMANDS = ("times", "formula", "check", "judge", "delay", "explain-refusal", "netlist", "from-yosys", "man", "", "--")
 WORDS = ("a.txt", "b.txt", "3", "0,1", "a=0", "-o", "--output", "-f", "--force", "--names", "--delay", "--vector",
          "--refutation", "--solver", "--seconds", "--figures", "--text", "--bytes", "--delays", "--top", "cadical", "-",
-         "--arrivals", "b=25", "--arrivals=0,25",
+         "--arrivals", "b=25", "--arrivals=0,25", "--falls", "5,1,1",
          "--", "-1", "-x", "", "--out", "--output=made", "-omade", "-fo", "two words", "-two words", "-h", "--version")
 LINES, MOST_WORDS = 6000, 7
 
 PLAIN = ("delay a.txt", "delay a.txt b.txt --figures", "delay a.txt --solver cadical --seconds 5 -o made -f",
          "times a.txt", "times a.txt 0,1", "formula a.txt 3 --names", "check a.cnf b.txt", "judge a.txt made",
          "delay a.txt --arrivals b=25", "times a.txt 0,1 --arrivals 0,25", "judge a.txt made --arrivals b=25",
+         "delay a.txt --falls 5,1,1", "judge a.txt --falls 5,1,1 made",
          "times a.txt --arrivals 0,25 0,1", "judge a.txt --arrivals b=25 made", "delay a.txt -o made b.txt",
          "explain-refusal refused 15 1", "from-yosys a.json --delays d.txt", "man")
 

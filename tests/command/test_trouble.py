@@ -2,6 +2,7 @@
 
 import os
 import pathlib
+import re
 import shutil
 import signal
 import subprocess
@@ -10,6 +11,7 @@ import unittest
 from unittest import mock
 
 import large_circuits
+import tools
 from asking import COMMAND, COURSE, ROOT, Asking
 from buzzlumen.machine import Process
 from document import write_netlist
@@ -30,6 +32,23 @@ SOLVERS = (
     ("for last; do :; done; echo 1 0 > $last; exit 20", "what was found by cadical is refused: STEP"),
     ("for last; do :; done; echo " + LONG + " 0 > $last; exit 20", "what was found by cadical is refused: REFUTATION"),
 )
+
+# Sources of archives that do not belong to the header: functions that do nothing, that break off, that have the
+# parameters of a time before there were arrivals. DECLARED becomes the header's other functions.
+NOTHING = "#include <stdlib.h>\nDECLARED"
+BREAKS_OFF = "#include <stdlib.h>\n#define BODY abort();\nDECLARED"
+WITHOUT_ARRIVALS = """#include <stdint.h>
+#include <string.h>
+typedef struct { uint32_t number, time; uint64_t place; } evaluated;
+evaluated buzzlumen_evaluate(const uint8_t *netlist, size_t netlist_length, const uint8_t *vector, size_t vector_length,
+                             uint8_t *values, size_t values_length, uint32_t *times, size_t times_length)
+{
+    memset(values, 0, values_length);
+    memset(times, 0, times_length * sizeof *times);
+    return (evaluated){0, 6, 0};
+}
+DECLARED"""
+NO_JUDGE = NOTHING.replace("DECLARED", "#define buzzlumen_judge static judge\nDECLARED")
 
 
 class Trouble(Asking):
@@ -136,6 +155,57 @@ class Trouble(Asking):
             host = self.file("host", content)
             host.chmod(0o755)
             self.ask("times", A, "01", status=3, env=self.environment(BUZZLUMEN_HOST=host))
+
+    def test_older_archive(self):
+        """An archive of another state of the tree is told, and how to build it anew: one that lacks a function of the
+        header, one whose functions have other parameters, one that breaks off, one that answers otherwise."""
+        shutil.copytree(ROOT / "command", self.folder / "command", ignore=shutil.ignore_patterns("__pycache__"))
+        shutil.copytree(ROOT / "include", self.folder / "include")
+        shutil.copy(ROOT / "buzzlumen", self.folder / "buzzlumen")
+        (self.folder / "target/staticlib").mkdir(parents=True)
+        archive = "the library's archive target/staticlib/libbuzzlumen.a"
+        other = f"{archive} does not answer as include/buzzlumen.h says: it is of another state of the tree"
+        lacks = (f"{archive} has no buzzlumen_judge, which include/buzzlumen.h declares: it is of an older state of "
+                 "the tree")
+        for source, wanted in ((NO_JUDGE, lacks), (NOTHING, other), (BREAKS_OFF, other), (WITHOUT_ARRIVALS, other)):
+            self.archive_of(source)
+            ended = subprocess.run([COMMAND[0], "-IS", self.folder / "buzzlumen", "times", A, "01"],
+                                   capture_output=True, text=True, check=False)
+            self.assertEqual((ended.returncode, ended.stderr),
+                             (3, f"buzzlumen: {wanted}. Build it anew by: rt staticlib buzzlumen\n"))
+            self.assertFalse((self.folder / "target/command/host").exists())
+
+    def archive_of(self, source):
+        """An archive of a C source, in the folder's tree; DECLARED there becomes the functions of the header that it
+        does not have itself."""
+        header = (ROOT / "include/buzzlumen.h").read_text()
+        names = re.findall(r"^buzzlumen_\w+ (buzzlumen_\w+)\(", header, flags=re.M)
+        bodies = [f"void {name}(void) {{ BODY }}" for name in names if f" {name}(" not in source]
+        source = source.replace("DECLARED", "\n".join(["#ifndef BODY", "#define BODY", "#endif", *bodies, ""]))
+        compiler = tools.compiler()
+        archive = self.folder / "target/staticlib/libbuzzlumen.a"
+        archive.unlink(missing_ok=True)
+        made = self.folder / "made.o"
+        subprocess.run([compiler[0], "-O1", "-w", "-c", "-o", made, self.file("made.c", source)], check=True)
+        subprocess.run([compiler[0].replace("gcc", "ar"), "rcs", archive, made], check=True)
+
+    def test_broken_off(self):
+        """A host in the tree that breaks off by a signal: the archive may be of another state."""
+        tree = self.folder / "tree"
+        shutil.copytree(ROOT / "command", tree / "command", ignore=shutil.ignore_patterns("__pycache__"))
+        shutil.copytree(ROOT / "include", tree / "include")
+        shutil.copy(ROOT / "buzzlumen", tree / "buzzlumen")
+        (tree / "target/staticlib").mkdir(parents=True)
+        shutil.copy(ROOT / "target/staticlib/libbuzzlumen.a", tree / "target/staticlib")
+        host = tree / "target/command/host"
+        host.parent.mkdir()
+        host.write_text("#!/bin/sh\nkill -SEGV $$\n")
+        host.chmod(0o755)
+        ended = subprocess.run([COMMAND[0], "-IS", tree / "buzzlumen", "times", A, "01"], capture_output=True,
+                               text=True, check=False)
+        self.assertEqual((ended.returncode, ended.stderr), (3, "buzzlumen: the host program broke off: status -11; is "
+                         "target/staticlib/libbuzzlumen.a of this state of the tree? Build it anew by: rt staticlib "
+                         "buzzlumen\n"))
 
     def test_installed(self):
         """Installed, the command finds its parts and its host in one folder, without the tree."""
