@@ -38,6 +38,17 @@ Written = namedtuple("Written", "name lines")
 Difference = namedtuple("Difference", "command printed")
 
 
+# The page of the course that asks for rise and fall apart.
+RISE_AND_FALL = ROOT / "docs/course/rise_and_fall.md"
+
+
+def pages_of_course(archive):
+    """The pages of the course whose questions an archive answers: the one on rise and fall only where it has these
+    calls."""
+    pages = sorted((ROOT / "docs/course").rglob("*.md"))
+    return [page for page in pages if page != RISE_AND_FALL or tools.has_rise_fall(archive)]
+
+
 def fences(lines):
     """Each fence: the line number of its first inner line, its two words, its inner lines."""
     inside = None
