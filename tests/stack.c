@@ -44,6 +44,19 @@ CALL(check, buzzlumen_check(8, formula, 48, refutation, 1, propagation, 9))
 CALL(judge, buzzlumen_judge(netlist, 48, arrivals, 2, 2, vector, 2, refutation, 1, values, 5, times, 5, pairs, 6,
                             formula, 48, propagation, 9))
 
+#ifdef RISE_FALL
+static const uint32_t falls[5] = {3, 1, 1, 1, 1};
+static uint32_t table[18];
+static int32_t longer[99];
+static uint8_t wider[12];
+
+CALL(evaluate_rise_fall, buzzlumen_evaluate_rise_fall(netlist, 48, arrivals, 2, falls, 5, vector, 2, values, 5, times,
+                                                      5))
+CALL(build_rise_fall, buzzlumen_build_rise_fall(netlist, 48, arrivals, 2, falls, 5, 3, table, 18, longer, 99))
+CALL(judge_rise_fall, buzzlumen_judge_rise_fall(netlist, 48, arrivals, 2, falls, 5, 2, vector, 2, refutation, 1, values,
+                                                5, times, 5, table, 18, longer, 99, wider, 12))
+#endif
+
 static void measure(const char *name, void *(*call)(void *))
 {
     uint8_t *stack = aligned_alloc(PAGE, STACK), *lowest = stack;
@@ -70,5 +83,10 @@ int main(void)
     measure("build", build);
     measure("check", check);
     measure("judge", judge);
+#ifdef RISE_FALL
+    measure("evaluate_rise_fall", evaluate_rise_fall);
+    measure("build_rise_fall", build_rise_fall);
+    measure("judge_rise_fall", judge_rise_fall);
+#endif
     return 0;
 }
