@@ -335,15 +335,15 @@ fn simple_signal_apart(
         let pin = pin_signal_for(file, shape, falls, number, controls == k, values, times);
         scan = with_pin(scan, controls, pin.at);
     }
-    if scan.some {
+    if !scan.some {
         return Signal {
-            value: k,
-            at: scan.first,
+            value: !k,
+            at: scan.last,
         };
     }
     Signal {
-        value: !k,
-        at: scan.last,
+        value: k,
+        at: scan.first,
     }
 }
 
@@ -461,14 +461,14 @@ fn settle_gates_apart(
 {
     let inputs = shape.inputs;
     let gates = shape.gates;
-    let mut number = 0;
-    while number < gates {
-        let node = inputs + number;
-        let gate = netlist::gate_at(file, shape, number);
+    let mut done = 0;
+    while done < gates {
+        let node = inputs + done;
+        let gate = netlist::gate_at(file, shape, done);
         let signal = gate_signal_apart(file, shape, falls, gate, &values[..node], &times[..node]);
         values[node] = stored(signal.value);
         times[node] = signal.at;
-        number += 1;
+        done += 1;
     }
 }
 

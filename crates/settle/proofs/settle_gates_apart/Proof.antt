@@ -11,17 +11,17 @@ use Rattle.settle.proofs.settle_gates_apart.Statement.{statement}
 use Rattle.settle.proofs.settle_gates_apart.Tie as tie
 
 abbrev Inv-loop : tie.InvT-loop
-Inv-loop file shape falls values₀ times₀ inputs gates number₀ values times number =
-    L.Gating file shape (apart falls) values₀ times₀ values times number
+Inv-loop file shape falls values₀ times₀ inputs gates done₀ values times done =
+    L.Gating file shape (apart falls) values₀ times₀ values times done
 
 abbrev μ-loop : tie.MeasureT-loop
-μ-loop file shape falls values₀ times₀ inputs gates number₀ values times number = gates - number
+μ-loop file shape falls values₀ times₀ inputs gates done₀ values times done = gates - done
 
 -- the gate's node is within both slices
 within : (c : tie.In-loop Inv-loop μ-loop) →
-    (c .before .before .before .before .before .before .args .shape .inputs + c .before .loop .number
+    (c .before .before .before .before .before .before .args .shape .inputs + c .before .loop .done
     < length (c .before .loop .values))
-    × (c .before .before .before .before .before .before .args .shape .inputs + c .before .loop .number
+    × (c .before .before .before .before .before .before .args .shape .inputs + c .before .loop .done
     < length (c .before .loop .times))
 within c =
     let s = c .before .before .before .before .before .before in (
@@ -80,8 +80,8 @@ mul-times c =
 slice-write-times : tie.Need-slice-write-times Inv-loop μ-loop
 slice-write-times c = within (c .before .before .before .before .before) .1
 
-add-number : tie.Need-add-number Inv-loop μ-loop
-add-number c = omega arith
+add-done : tie.Need-add-done Inv-loop μ-loop
+add-done c = omega arith
 
 loop-less : tie.Need-loop-less Inv-loop μ-loop
 loop-less c = omega arith
@@ -132,7 +132,7 @@ settle-gates-apart-spec =
     slice-write-values
     mul-times
     slice-write-times
-    add-number
+    add-done
     loop-less
     loop-again
     same-length

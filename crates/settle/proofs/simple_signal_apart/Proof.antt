@@ -4,6 +4,7 @@ use mathlib.Core.Path.{ap, sym, _∙_}
 use mathlib.Core.Bool.{not}
 use Prim.Native.Nat.{_+_, _-_}
 use native.Mathlib.Omega.{arith}
+use borrow.Author.Tests.{not-true, not-false}
 use Rattle.netlist.specs.File.{pinAt}
 use Rattle.settle.specs.declared.Scan.{Scan}
 use Rattle.settle.specs.Steps.{simplePin}
@@ -79,17 +80,17 @@ loop-again c =
 
 returns : tie.Need-returns Inv-loop μ-loop
 returns c =
-    let s = c .before .before .before .before .before .before .before .before in
-    let e = L.scanning-ends (c .before .before .loop .inv) (c .before .loop-test .left) in
-    ap (λ (x : Scan). record { value = s .args .k; at = x .first }) e
-    ∙ Ends.apart-controlled _ _ _ _ _ _ (sym (ap (λ (x : Scan). x .some) e) ∙ c .if1 .taken)
+    let s = c .before .before .before .before .before .before .before .before .before in
+    let e = L.scanning-ends (c .before .before .before .loop .inv) (c .before .before .loop-test .left) in
+    ap (λ (x : Scan). record { value = not (s .args .k); at = x .last }) e
+    ∙ Ends.apart-free _ _ _ _ _ _ (sym (ap (λ (x : Scan). x .some) e) ∙ not-true _ (c .if1 .taken))
 
 returns-2 : tie.Need-returns-2 Inv-loop μ-loop
 returns-2 c =
-    let s = c .before .before .before .before .before .before .before .before in
-    let e = L.scanning-ends (c .before .before .loop .inv) (c .before .loop-test .left) in
-    ap (λ (x : Scan). record { value = not (s .args .k); at = x .last }) e
-    ∙ Ends.apart-free _ _ _ _ _ _ (sym (ap (λ (x : Scan). x .some) e) ∙ c .if1 .left)
+    let s = c .before .before .before .before .before .before .before .before .before in
+    let e = L.scanning-ends (c .before .before .before .loop .inv) (c .before .before .loop-test .left) in
+    ap (λ (x : Scan). record { value = s .args .k; at = x .first }) e
+    ∙ Ends.apart-controlled _ _ _ _ _ _ (sym (ap (λ (x : Scan). x .some) e) ∙ not-false _ (c .if1 .left))
 
 pub simple-signal-apart-spec : {M : Type 1} → statement M
 simple-signal-apart-spec =
