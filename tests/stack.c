@@ -46,15 +46,16 @@ CALL(judge, buzzlumen_judge(netlist, 48, arrivals, 2, 2, vector, 2, refutation, 
 
 #ifdef RISE_FALL
 static const uint32_t falls[5] = {3, 1, 1, 1, 1};
+static const int32_t steps[3] = {2, 0, 0};
 static uint32_t table[18];
-static int32_t longer[99];
+static int32_t longer[95];
 static uint8_t wider[12];
 
 CALL(evaluate_rise_fall, buzzlumen_evaluate_rise_fall(netlist, 48, arrivals, 2, falls, 5, vector, 2, values, 5, times,
                                                       5))
-CALL(build_rise_fall, buzzlumen_build_rise_fall(netlist, 48, arrivals, 2, falls, 5, 3, table, 18, longer, 99))
-CALL(judge_rise_fall, buzzlumen_judge_rise_fall(netlist, 48, arrivals, 2, falls, 5, 2, vector, 2, refutation, 1, values,
-                                                5, times, 5, table, 18, longer, 99, wider, 12))
+CALL(build_rise_fall, buzzlumen_build_rise_fall(netlist, 48, arrivals, 2, falls, 5, 3, table, 18, longer, 95))
+CALL(judge_rise_fall, buzzlumen_judge_rise_fall(netlist, 48, arrivals, 2, falls, 5, 2, vector, 2, steps, 3, values, 5,
+                                                times, 5, table, 18, longer, 95, wider, 12))
 #endif
 
 static void measure(const char *name, void *(*call)(void *))
