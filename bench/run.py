@@ -313,6 +313,8 @@ def main():
             for case in checking_cases(folder, quick):
                 compare(count, program, case)
         if tools.has_rise_fall(archive) or "--rise-fall" in sys.argv:
+            if not tools.has_rise_fall(archive):
+                print("the archive has no calls for rise and fall apart: here the twin stands in its place too")
             met = [compare(count, program, case) for case in rise_fall_cases(folder, quick, program)]
             if not all(met):
                 sys.exit("bench: a ratio is above the most that it may be")

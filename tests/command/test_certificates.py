@@ -75,8 +75,8 @@ class Certificates(Asking):
         for old, new, wanted in (
                 ("certificate 1", "certificate 2", "line 1: `buzzlumen certificate 2`: only `buzzlumen certificate 1` "
                  "is known"),
-                ("delay 2\n", "delay 2\nfalls a=3\n", "line 4: `falls` is no line of a certificate of version 1; known "
-                 "are netlist arrivals delay vector refutation"),
+                ("delay 2\n", "delay 2\nearly a=3\n", "line 4: `early` is no line of a certificate of version 1; known "
+                 "are netlist arrivals "),
                 ("delay 2\n", "delay 2\ndelay 2\n", "line 4: delay stands here for the second time"),
                 ("delay 2\n", "", "the certificate has no line delay"),
                 ("delay 2", "delay two", "line 3: a delay is a number"),
