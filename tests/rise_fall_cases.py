@@ -5,6 +5,7 @@ Made where the archive has these calls (tests/tools.py: has_rise_fall). What eac
 tests/rise_fall.py. Every maker takes dice, so a seed gives the same calls on every machine.
 """
 
+import bundles
 import document
 import methods
 import rise_fall
@@ -15,7 +16,7 @@ from cases import (ANY_REFUSAL, BOUNDARY_SHARES, FILE_A, LARGEST, arrivals_of, d
                    with_small_delays)
 from document import (AND, BUF, FALL, MUX, NOT, XOR, Accepted, Built, Gate, Netlist, Pin, Refused, Settled, node_count,
                       numbers_of, write_netlist)
-from methods import in_time, own_falls
+from methods import own_falls
 
 EVALUATE, BUILD, JUDGE = "evaluate_rise_fall", "build_rise_fall", "judge_rise_fall"
 
@@ -243,7 +244,7 @@ def exchanged(netlist, falls):
 
 def edge_calls():
     """Edges whose answers were worked out by hand."""
-    return settling_edges() + formula_edges() + fall_edges()
+    return settling_edges() + formula_edges() + room_edges() + fall_edges()
 
 
 def settling_edges():
@@ -296,6 +297,28 @@ def formula_edges():
         Call(EVALUATE, (both, [0, 0], [9, 1], bytes((1, 1)), 3, 3), Settled(4)),
         Call(JUDGE, (both, [0, 0], [9, 1], 9, bytes((0, 1)), [0], 3, 3, 0, 11, 4), Accepted()),
     ]
+
+
+def room_edges():
+    """Each room exact, and each one short by itself: two inverters in a row, which rise in 5 and in 6 and fall in 2, the
+    input at 1. Their formula for 10 has 46 numbers and 4 pairs.
+    """
+    data = write_netlist(Netlist(1, [Gate(NOT, [Pin(0, 5)]), Gate(NOT, [Pin(1, 6)])], [2]))
+    exact = (3, 3, 12, 46, 8)
+    calls = [Call(EVALUATE, (data, [1], [2, 2], bytes((1,)), 3, 3), Settled(9)),
+             Call(EVALUATE, (data, [1], [2, 2], bytes((0,)), 3, 3), Settled(8)),
+             Call(EVALUATE, (data, [1], [2, 2], bytes((1,)), 2, 3), Refused(document.ROOM, 3)),
+             Call(EVALUATE, (data, [1], [2, 2], bytes((1,)), 3, 2), Refused(document.ROOM, 3)),
+             Call(BUILD, (data, [1], [2, 2], 10, 12, 46), Built(7, 15, 46, 4)),
+             Call(BUILD, (data, [1], [2, 2], 10, 14, 46), Built(7, 15, 46, 4)),
+             Call(BUILD, (data, [1], [2, 2], 10, 11, 46), Refused(document.PAIRS, 0)),
+             Call(BUILD, (data, [1], [2, 2], 10, 12, 45), Refused(document.ROOM, 46)),
+             Call(JUDGE, (data, [1], [2, 2], 9, bytes((1,)), [0], *exact), Accepted())]
+    for place, needed in enumerate(exact):
+        short = [room - (place == other) for other, room in enumerate(exact)]
+        wanted = Refused(document.PAIRS, 0) if place == 2 else Refused(document.ROOM, needed)
+        calls.append(Call(JUDGE, (data, [1], [2, 2], 9, bytes((1,)), [0], *short), wanted))
+    return calls
 
 
 def fall_edges():
@@ -359,7 +382,6 @@ def largest_calls(dice):
 
 def boundary_calls(dice, share):
     """Calls of the three functions on a share of the files at the boundaries of checks 1 to 7, falls of any number."""
-    import bundles
     calls = []
     for data in bundles.netlist_cases()[share::BOUNDARY_SHARES]:
         try:
