@@ -300,8 +300,8 @@ def formula_edges():
 
 
 def room_edges():
-    """Each room exact, and each one short by itself: two inverters in a row, which rise in 5 and in 6 and fall in 2, the
-    input at 1. Their formula for 10 has 46 numbers and 4 pairs.
+    """Each room exact, and each one short by itself: two inverters in a row, which rise in 5 and in 6 and fall in 2,
+    the input at 1. Their formula for 10 has 46 numbers and 4 pairs.
     """
     data = write_netlist(Netlist(1, [Gate(NOT, [Pin(0, 5)]), Gate(NOT, [Pin(1, 6)])], [2]))
     exact = (3, 3, 12, 46, 8)
