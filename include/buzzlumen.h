@@ -1,13 +1,13 @@
 /* Buzzlumen for a C host: evaluate a circuit, build its timing formula, check a refutation, judge a delay certificate.
  *
- * Four functions on numbers and slices. A slice is a pointer and then its length, in elements and not in bytes.
+ * Seven functions on numbers and slices. A slice is a pointer and then its length, in elements and not in bytes.
  * Calling convention: x86-64 System V. The rules behind them are docs/RULES.md; here stands what a caller needs of it.
  *
  * WHAT A CALL LEAVES in the slices lent for writing is fixed whole:
  * - on a refusal all of them hold zeros;
  * - on success each holds its results from the front and zeros behind; propagation holds zeros only.
- * How long they must be stands at each function. 512 values, 512 times and 131,072 numbers for pairs are always enough;
- * the length of a formula is best asked for: lend none, and refusal 9 names it.
+ * How long they must be stands at each function. 512 values, 512 times and 131,072 numbers for pairs (196,608 with rise
+ * and fall apart) are always enough; the length of a formula is best asked for: lend none, and refusal 9 names it.
  *
  * WHAT A HOST OWES. Whatever a slice holds is answered: no content is forbidden. But a call can't test its pointers.
  * - A pointer is not null, not even with length 0. It is aligned for its type, and so many elements lie behind it.
@@ -44,6 +44,11 @@
  * has it. MUX waits for select and the data pin that it chooses; where the two data pins agree, for these two instead,
  * if that is earlier. All other gates wait for their last pin. The circuit settles with its latest output, never after
  * 457,551.
+ *
+ * RISE AND FALL APART. Each of evaluate, build and judge has a sibling that takes a second delay for each pin beside the
+ * arrivals: falls, P numbers, 0..999, number j for pin j. A gate that ends at 0 goes by these, a gate that ends at 1 by
+ * the delays in the file: the gate's own final value chooses, for all of its pins. Where both lists are the same, the
+ * times are those of the plain calls.
  */
 #ifndef BUZZLUMEN_H
 #define BUZZLUMEN_H
@@ -79,7 +84,8 @@ enum {
     BUZZLUMEN_STEP = 14,       /* a clause of the refutation doesn't follow by unit propagation from the formula and
                                   the clauses before it: the first that doesn't */
     BUZZLUMEN_WITNESS = 15,    /* under the vector the circuit settles at another time than the delay: that time */
-    BUZZLUMEN_ARRIVAL = 16     /* not just I arrivals: I; then, an arrival over 9,999: the first one's position */
+    BUZZLUMEN_ARRIVAL = 16,    /* not just I arrivals: I; then, an arrival over 9,999: the first one's position */
+    BUZZLUMEN_FALL = 19        /* not just P fall delays: P; then, a delay over 999: the first one's position */
 };
 
 typedef struct {
@@ -158,6 +164,38 @@ buzzlumen_judged buzzlumen_judge(const uint8_t *netlist, size_t netlist_length,
                                  uint32_t *pairs, size_t pairs_length,
                                  int32_t *formula, size_t formula_length,
                                  uint8_t *propagation, size_t propagation_length);
+
+/* The same with rise and fall apart. Slices, lengths, what is left and the order of checks are as above, but for these:
+ * - falls has P delays; refusal 19 is looked for directly behind 16;
+ * - a pair is (node, value, time): that the node ends at this value and is late at this time. The table has three
+ *   numbers for it and holds a third as many pairs as it has numbers, rounded down, and at most 65,536; it is in the
+ *   order of nodes, then values, then times, and so are the pairs' variables. */
+buzzlumen_evaluated buzzlumen_evaluate_rise_fall(const uint8_t *netlist, size_t netlist_length,
+                                                 const uint32_t *arrivals, size_t arrivals_length,
+                                                 const uint32_t *falls, size_t falls_length,
+                                                 const uint8_t *vector, size_t vector_length,
+                                                 uint8_t *values, size_t values_length,
+                                                 uint32_t *times, size_t times_length);
+
+buzzlumen_built buzzlumen_build_rise_fall(const uint8_t *netlist, size_t netlist_length,
+                                          const uint32_t *arrivals, size_t arrivals_length,
+                                          const uint32_t *falls, size_t falls_length,
+                                          uint32_t target,
+                                          uint32_t *pairs, size_t pairs_length,
+                                          int32_t *formula, size_t formula_length);
+
+/* Acceptance means here too that the delay is the largest settling time there is, by these delays. */
+buzzlumen_judged buzzlumen_judge_rise_fall(const uint8_t *netlist, size_t netlist_length,
+                                           const uint32_t *arrivals, size_t arrivals_length,
+                                           const uint32_t *falls, size_t falls_length,
+                                           uint32_t delay,
+                                           const uint8_t *vector, size_t vector_length,
+                                           const int32_t *refutation, size_t refutation_length,
+                                           uint8_t *values, size_t values_length,
+                                           uint32_t *times, size_t times_length,
+                                           uint32_t *pairs, size_t pairs_length,
+                                           int32_t *formula, size_t formula_length,
+                                           uint8_t *propagation, size_t propagation_length);
 
 #ifdef __cplusplus
 }

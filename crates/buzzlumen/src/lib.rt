@@ -1,4 +1,4 @@
-// The library for a C host: four functions on numbers and slices, each a call of the library and its answer as a
+// The library for a C host: seven functions on numbers and slices, each a call of the library and its answer as a
 // struct of numbers. include/buzzlumen.h declares them. Assumes nothing.
 use formula::Built;
 use refusal::Checked;
@@ -19,7 +19,7 @@ ghost use Rattle.buzzlumen.specs.Answers.{
   Says,
   Certifies,
 };
-ghost use Rattle.netlist.specs.Netlist.{alike};
+ghost use Rattle.netlist.specs.Netlist.{alike, apart};
 
 // The answer of an evaluation.
 #[repr(C)]
@@ -180,6 +180,97 @@ pub extern "C" fn buzzlumen_judge(
     numbers_of_checked(certificate::judge(
         netlist,
         arrivals,
+        delay,
+        vector,
+        refutation,
+        values,
+        times,
+        pairs,
+        formula,
+        propagation,
+    ))
+}
+
+// ---- gates whose delays of rise and fall stand apart
+
+// Values and times of all nodes under a vector, by the delays for each gate's final value.
+#[no_mangle]
+pub extern "C" fn buzzlumen_evaluate_rise_fall(
+    netlist: &[u8],
+    arrivals: &[u32],
+    falls: &[u32],
+    vector: &[u8],
+    values: &mut [u8],
+    times: &mut [u32],
+) -> Evaluated
+    ensures { λ r. ⌜
+        Evaluates (evaluation (now (netlist .entry)) (now (arrivals .entry)) (apart (now (falls .entry)))
+        (now (vector .entry)) (length (now (values .entry))) (length (now (times .entry)))) r
+        (now (values .exit)) (now (times .exit))
+        ⌝ }
+{
+    numbers_of_settled(settle::evaluate_rise_fall(
+        netlist,
+        arrivals,
+        falls,
+        vector,
+        values,
+        times,
+    ))
+}
+
+// The formula that says that some output settles at the target or later, by these delays.
+#[no_mangle]
+pub extern "C" fn buzzlumen_build_rise_fall(
+    netlist: &[u8],
+    arrivals: &[u32],
+    falls: &[u32],
+    target: u32,
+    pairs: &mut [u32],
+    formula: &mut [i32],
+) -> Formed
+    ensures { λ r. ⌜
+        Builds (building (now (netlist .entry)) (now (arrivals .entry)) (apart (now (falls .entry))) target
+        (length (now (pairs .entry))) (length (now (formula .entry)))) r (now (pairs .exit)) (now (formula .exit))
+        ⌝ }
+{
+    numbers_of_built(formula::build_rise_fall(
+        netlist,
+        arrivals,
+        falls,
+        target,
+        pairs,
+        formula,
+    ))
+}
+
+// Whether a delay is the circuit's largest settling time by this certificate, by these delays.
+#[no_mangle]
+pub extern "C" fn buzzlumen_judge_rise_fall(
+    netlist: &[u8],
+    arrivals: &[u32],
+    falls: &[u32],
+    delay: u32,
+    vector: &[u8],
+    refutation: &[i32],
+    values: &mut [u8],
+    times: &mut [u32],
+    pairs: &mut [u32],
+    formula: &mut [i32],
+    propagation: &mut [u8],
+) -> Answer
+    ensures { λ r. ⌜
+        Certifies (now (netlist .entry)) (now (arrivals .entry)) (apart (now (falls .entry))) delay
+        (now (vector .entry)) (now (refutation .entry))
+        (roomsOf (now (values .entry)) (now (times .entry)) (now (pairs .entry)) (now (formula .entry))
+        (now (propagation .entry)))
+        (now (values .exit)) (now (times .exit)) (now (pairs .exit)) (now (formula .exit)) (now (propagation .exit)) r
+        ⌝ }
+{
+    numbers_of_checked(certificate::judge_rise_fall(
+        netlist,
+        arrivals,
+        falls,
         delay,
         vector,
         refutation,

@@ -9,9 +9,10 @@ use Prim.Native.Nat.{ℕ, suc, _≤_}
 use native.Mathlib.Omega.{arith}
 use lib.Dec.{T, leb, not-T, nleb→lt}
 use lib.IntN.{ℤ}
-use lib.ListN.{length, length-replicate}
+use lib.ListN.{length}
 use Rattle.basics.proofs.Truth.{decide}
 use Rattle.netlist.specs.Netlist.{valid, Circuit}
+use Rattle.netlist.specs.Holds.{Small}
 use Rattle.settle.specs.Settling.{circuitTime}
 use Rattle.settle.proofs.Nodes.{circuit-late, Arrives}
 use Rattle.clauses.specs.Clauses.{Literal, clausesOf}
@@ -23,7 +24,8 @@ use Rattle.certificate.specs.Largest.{Largest}
 use Rattle.certificate.proofs.Demand.{demand-at}
 use Rattle.certificate.proofs.Numbers.{numbers-read}
 
-module _ (circuit : Circuit) (ok : T (valid (circuit .net))) (as-many : Arrives circuit) where
+module _ (circuit : Circuit) (ok : T (valid (circuit .net))) (as-many : Arrives circuit)
+    (small : Small (circuit .slopes)) where
   -- a vector that settles at d, and a refutation of the formula for d+1 that passes
   pub accepted : (delay : ℕ) (vector : List Bool) → length vector ≡ circuit .net .inputs →
       circuitTime circuit vector ≡ delay → (refutation : List (List Literal)) →
@@ -40,7 +42,7 @@ module _ (circuit : Circuit) (ok : T (valid (circuit .net))) (as-many : Arrives 
           ⊎ (T (leb (suc delay) (circuitTime circuit other)) → ⊥) → circuitTime circuit other ≤ delay
       pick other e (inl late) =
           let s =
-          demand-at circuit ok as-many other e (suc delay) .1
+          demand-at circuit ok as-many small other e (suc delay) .1
           (subst T (circuit-late circuit other delay) late)
           in
           absurd
@@ -53,13 +55,13 @@ module _ (circuit : Circuit) (ok : T (valid (circuit .net))) (as-many : Arrives 
           omega arith
 
 -- the same over the very lists of numbers
-pub numbers-accepted : (circuit : Circuit) → T (valid (circuit .net)) → Arrives circuit →
+pub numbers-accepted : (circuit : Circuit) → T (valid (circuit .net)) → Arrives circuit → Small (circuit .slopes) →
     (delay : ℕ) (vector : List Bool) →
     length vector ≡ circuit .net .inputs → circuitTime circuit vector ≡ delay → (refutation : List ℤ) →
     Judged (clausesOf (numbersFor circuit (suc delay))) (clausesOf refutation) passes →
     List·Memᴰ [] (clausesOf refutation) → Largest circuit delay
-numbers-accepted circuit ok as-many delay vector as-long settles refutation judged empty =
-    accepted circuit ok as-many delay vector as-long settles (clausesOf refutation)
+numbers-accepted circuit ok as-many small delay vector as-long settles refutation judged empty =
+    accepted circuit ok as-many small delay vector as-long settles (clausesOf refutation)
     (subst (λ (formula : List (List Literal)). Judged formula (clausesOf refutation) passes)
     (numbers-read circuit ok (suc delay)) judged)
     empty

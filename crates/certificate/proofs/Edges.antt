@@ -7,6 +7,7 @@ use Rattle.netlist.specs.File.{tableBytes, shapeOf, gateAt, pinAt, cellOf, cell
 use Rattle.netlist.specs.Open.{
   netlistRows,
   arrivalRows,
+  fallRows,
   firstWrong,
   countWrong,
   backWrong,
@@ -32,12 +33,13 @@ use Rattle.formula.specs.Formula.{clauseOf, gateClauses, late, pairClauses, for
 use Rattle.formula.specs.Promise.{numbersFor, countsFor, buildingRows}
 use Rattle.certificate.specs.Promise.{Judgement, Judges}
 use Rattle.certificate.specs.Cases.{Case, wire}
-use Rattle.certificate.specs.Edges.{edges, faults, lateInputs}
+use Rattle.certificate.specs.Edges.{edges, faults, lateInputs, inverters, slopedDelays}
 use Rattle.certificate.proofs.Examples.{answerTo, computed-hold}
 
 computed : map answerTo edges ≡ map (λ (c : Case). c .answer) edges
 unfolding
-    edges faults lateInputs wire circuitA written oneGate netlistRows arrivalRows firstWrong countWrong backWrong
+    edges faults lateInputs inverters slopedDelays wire circuitA written oneGate netlistRows arrivalRows fallRows
+    firstWrong countWrong backWrong
     pinsBefore gateWrong gatePlace sumWrong
     pinsAt pinWrong pinPlace outputWrong outputPlace pinsFit kindOf tableBytes shapeOf gateAt pinAt pinsFrom cellOf
     cellAt netlistAt gateValue settles grow valuesOf timesOf topsOf circuitTime givenRows flat clausesFrom
@@ -48,6 +50,7 @@ computed = refl
 
 -- each row's call has the row's answer
 pub edges-hold : (c : Case) → List·Memᴰ c edges →
-    (result : Judgement) × Judges (c .file) (c .arrivals) (c .delay) (c .vector) (c .refutation) (c .rooms) result
+    (result : Judgement)
+    × Judges (c .file) (c .arrivals) (c .slopes) (c .delay) (c .vector) (c .refutation) (c .rooms) result
     × (result .answer ≡ c .answer)
 edges-hold = computed-hold edges computed

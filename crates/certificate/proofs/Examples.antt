@@ -7,13 +7,12 @@ use Prim.Native.Nat.{ℕ, suc}
 use native.Mathlib.Omega.{arith}
 use lib.IntN.{ℤ}
 use Rattle.basics.proofs.Lists.{map-each}
-use Rattle.netlist.specs.Netlist.{Circuit}
+use Rattle.netlist.specs.Netlist.{Circuit, Slopes, alike}
 use Rattle.netlist.specs.Kinds.{pinsFit, kindOf}
 use Rattle.netlist.specs.File.{tableBytes, shapeOf, gateAt, pinAt, cellOf, cellAt, netlistAt, pinsFrom, circuitOf}
 use Rattle.netlist.specs.Open.{
   netlistRows,
   arrivalRows,
-  circuitRows,
   rowsOver,
   firstWrong,
   countWrong,
@@ -35,7 +34,6 @@ use Rattle.clauses.specs.Clauses.{flat, clausesFrom, clausesOf}
 use Rattle.refusal.specs.declared.Checked.{Checked}
 use Rattle.refusal.specs.declared.Checked.the-variants.{Passes, Refused}
 use Rattle.refusal.specs.Rows.{checked, unlessRefused}
-use Rattle.refusal.proofs.Rows.{first-passes, rest-passes}
 use Rattle.refute.specs.Passes.{isTrue, isFree, assign, say, pass, refutes, assert, follows, verdict}
 use Rattle.refute.specs.Rows.{refutationForm, firstBeyond, ended, lastRow, firstEmpty}
 use Rattle.refute.specs.Promise.{malformed}
@@ -50,22 +48,23 @@ use Rattle.certificate.specs.Promise.{Rooms, Judgement, Meets, certifica
 use Rattle.certificate.specs.Cases.{Case, wire, cases}
 use Rattle.certificate.proofs.Numbers.{numbers-well-formed}
 use Rattle.certificate.proofs.Passing.{certificate-passes}
-use Rattle.certificate.proofs.Granted.{passed-valid, judges-largest}
+use Rattle.certificate.proofs.Granted.{rows-admit, judges-largest}
 
 -- ---- the promise can be met
 
 -- what the rows and the computed verdict come to
-abbrev pub checkedTo : List ℕ → List ℕ → ℕ → List ℕ → List ℤ → Rooms → Checked
-checkedTo file arrivals delay vector refutation rooms =
-    unlessRefused (checked (rowsOver file arrivals (certificateRows delay vector refutation rooms))) Refused
+abbrev pub checkedTo : List ℕ → List ℕ → Slopes → ℕ → List ℕ → List ℤ → Rooms → Checked
+checkedTo file arrivals slopes delay vector refutation rooms =
+    unlessRefused (checked (rowsOver file arrivals slopes (certificateRows delay vector refutation rooms))) Refused
     (answerOf
-    (verdict (suc (countsFor (circuitOf file arrivals) (suc delay) .variables))
-    (clausesOf (numbersFor (circuitOf file arrivals) (suc delay))) (clausesOf refutation)))
+    (verdict (suc (countsFor (circuitOf file arrivals slopes) (suc delay) .variables))
+    (clausesOf (numbersFor (circuitOf file arrivals slopes) (suc delay))) (clausesOf refutation)))
 
 -- and the judgement
-abbrev pub judgementTo : List ℕ → List ℕ → ℕ → List ℕ → List ℤ → Rooms → Judgement
-judgementTo file arrivals delay vector refutation rooms =
-    judgementOf (circuitOf file arrivals) delay vector rooms (checkedTo file arrivals delay vector refutation rooms)
+abbrev pub judgementTo : List ℕ → List ℕ → Slopes → ℕ → List ℕ → List ℤ → Rooms → Judgement
+judgementTo file arrivals slopes delay vector refutation rooms =
+    judgementOf (circuitOf file arrivals slopes) delay vector rooms
+    (checkedTo file arrivals slopes delay vector refutation rooms)
 
 -- a judgement meets itself
 itself : {result : Judgement} → Meets result result
@@ -80,17 +79,20 @@ itself =
     }
 
 -- it meets the promise, whatever is judged
-pub judgement-exists : (file arrivals : List ℕ) (delay : ℕ) (vector : List ℕ) (refutation : List ℤ) (rooms : Rooms) →
-    Judges file arrivals delay vector refutation rooms (judgementTo file arrivals delay vector refutation rooms)
+pub judgement-exists : (file arrivals : List ℕ) (slopes : Slopes) (delay : ℕ) (vector : List ℕ) (refutation : List ℤ)
+    (rooms : Rooms) →
+    Judges file arrivals slopes delay vector refutation rooms
+    (judgementTo file arrivals slopes delay vector refutation rooms)
 unfolding countsFor
-judgement-exists file arrivals delay vector refutation rooms =
-    go (checked (rowsOver file arrivals (certificateRows delay vector refutation rooms))) refl
+judgement-exists file arrivals slopes delay vector refutation rooms =
+    go (checked (rowsOver file arrivals slopes (certificateRows delay vector refutation rooms))) refl
   where
     circuit : Circuit
-    circuit = circuitOf file arrivals
+    circuit = circuitOf file arrivals slopes
 
-    go : (rows : Checked) → checked (rowsOver file arrivals (certificateRows delay vector refutation rooms)) ≡ rows →
-        Judges file arrivals delay vector refutation rooms
+    go : (rows : Checked) →
+        checked (rowsOver file arrivals slopes (certificateRows delay vector refutation rooms)) ≡ rows →
+        Judges file arrivals slopes delay vector refutation rooms
         (judgementOf circuit delay vector rooms
         (unlessRefused rows Refused
         (answerOf
@@ -98,16 +100,10 @@ judgement-exists file arrivals delay vector refutation rooms =
         (clausesOf refutation)))))
     go (Refused refusal) e = record { answer = Refused refusal; answers = malformed e; meets = itself }
     go Passes e =
-        let own = certificateRows delay vector refutation rooms circuit in
-        let p =
-        certificate-passes circuit delay vector refutation rooms (rest-passes (circuitRows file arrivals) own e)
-        in
+        let a = rows-admit file arrivals slopes (certificateRows delay vector refutation rooms) e in
+        let p = certificate-passes circuit delay vector refutation rooms (a .1) in
         let few = pairs-fit circuit (suc delay) (rooms .pairs) (rooms .formula) (p .building) in
-        let well =
-        numbers-well-formed circuit (passed-valid file arrivals (first-passes (circuitRows file arrivals) own e) .0)
-        (suc delay)
-        (omega arith)
-        in
+        let well = numbers-well-formed circuit (a .0 .valid) (suc delay) (omega arith) in
         record {
           answer =
               answerOf
@@ -132,18 +128,18 @@ judgement-answer circuit delay vector rooms Passes = refl
 judgement-answer circuit delay vector rooms (Refused refusal) = refl
 
 abbrev pub answerTo : Case → Checked
-answerTo c = checkedTo (c .file) (c .arrivals) (c .delay) (c .vector) (c .refutation) (c .rooms)
+answerTo c = checkedTo (c .file) (c .arrivals) (c .slopes) (c .delay) (c .vector) (c .refutation) (c .rooms)
 
 -- rows that are computed have their answers as the promise means it
 pub computed-hold : (rows : List Case) → map answerTo rows ≡ map (λ (c : Case). c .answer) rows → (c : Case) →
     List·Memᴰ c rows → (result : Judgement)
-    × Judges (c .file) (c .arrivals) (c .delay) (c .vector) (c .refutation) (c .rooms) result ×
+    × Judges (c .file) (c .arrivals) (c .slopes) (c .delay) (c .vector) (c .refutation) (c .rooms) result ×
     (result .answer ≡ c .answer)
 computed-hold rows e c i = (
-  judgementTo (c .file) (c .arrivals) (c .delay) (c .vector) (c .refutation) (c .rooms),
-  judgement-exists (c .file) (c .arrivals) (c .delay) (c .vector) (c .refutation) (c .rooms),
-  judgement-answer (circuitOf (c .file) (c .arrivals)) (c .delay) (c .vector) (c .rooms)
-      (checkedTo (c .file) (c .arrivals) (c .delay) (c .vector) (c .refutation) (c .rooms))
+  judgementTo (c .file) (c .arrivals) (c .slopes) (c .delay) (c .vector) (c .refutation) (c .rooms),
+  judgement-exists (c .file) (c .arrivals) (c .slopes) (c .delay) (c .vector) (c .refutation) (c .rooms),
+  judgement-answer (circuitOf (c .file) (c .arrivals) (c .slopes)) (c .delay) (c .vector) (c .rooms)
+      (checkedTo (c .file) (c .arrivals) (c .slopes) (c .delay) (c .vector) (c .refutation) (c .rooms))
       ∙ map-each answerTo (λ (d : Case). d .answer) rows e c i,
 )
 
@@ -160,12 +156,13 @@ computed = refl
 
 -- each row's call has the row's answer
 pub cases-hold : (c : Case) → List·Memᴰ c cases →
-    (result : Judgement) × Judges (c .file) (c .arrivals) (c .delay) (c .vector) (c .refutation) (c .rooms) result
+    (result : Judgement)
+    × Judges (c .file) (c .arrivals) (c .slopes) (c .delay) (c .vector) (c .refutation) (c .rooms) result
     × (result .answer ≡ c .answer)
 cases-hold = computed-hold cases computed
 
 -- the true delay of circuit A is 2, by its certificate
-pub largest-of-A : Largest (circuitOf circuitA (0 ∷ 0 ∷ [])) 2
+pub largest-of-A : Largest (circuitOf circuitA (0 ∷ 0 ∷ []) alike) 2
 unfolding cases circuitA
 largest-of-A =
     let c = cases-hold _ (List·Memᴰ·head refl) in judges-largest (c .1) (c .2)

@@ -1,15 +1,21 @@
 -- What pins `Largest` down: every circuit has a largest settling time, and only one. The largest over the vectors of
--- length I is worked out by fixing one input at a time; it bounds every vector and some vector reaches it. Laws:
--- largest-unique, largest-exists. Assumes nothing.
-use mathlib.Core.Path.{_≡_, refl, ap, subst}
+-- length I is worked out by fixing one input at a time; it bounds every vector and some vector reaches it. And delays
+-- for gates that end at 0 that are the file's own leave it as it is. Laws: largest-unique, largest-exists,
+-- largest-equal. Assumes nothing.
+use mathlib.Core.Path.{_≡_, refl, sym, ap, _∙_, subst}
 use mathlib.Core.Bool.{Bool, true, false}
 use mathlib.Core.List.{List, [], _∷_}
-use Prim.Native.Nat.{ℕ, zero, suc, _≤_, max}
+use mathlib.Core.Logic.{_↔_}
+use Prim.Native.Nat.{ℕ, zero, suc, _≤_, _<_, max}
 use native.Mathlib.Omega.{arith}
 use native.Mathlib.Decide.{ℕ-discrete}
-use lib.ListN.{length}
-use Rattle.netlist.specs.Netlist.{Circuit}
-use Rattle.settle.specs.Settling.{circuitTime}
+use lib.ListN.{length, getD}
+use Rattle.netlist.specs.declared.Shape.{Shape}
+use Rattle.netlist.specs.Netlist.{Circuit, Slopes, alike, apart}
+use Rattle.netlist.specs.File.{delayAt, netlistAt, circuitAt, circuitWith}
+use Rattle.netlist.specs.Holds.{Holds}
+use Rattle.settle.specs.Settling.{last, circuitTime}
+use Rattle.settle.proofs.EqualLists.{equal-lists}
 use Rattle.certificate.specs.Largest.{Largest}
 
 -- two delays that are both the largest are equal: each bounds the vector that reaches the other
@@ -64,3 +70,36 @@ largest-exists circuit = (
     reached = largest-reached (circuitTime circuit) (circuit .net .inputs);
   },
 )
+
+-- ---- equal delays of rise and fall
+
+module _ (file : List ℕ) (shape : Shape) (h : Holds file shape) (arrivals falls : List ℕ)
+    (equal : (pin : ℕ) → pin < shape .pins → getD falls pin 0 ≡ delayAt file shape pin) where
+  -- slopes by which every vector settles at the same time have the same largest settling time
+  largest-by : (p q : Slopes) →
+      ((vector : List Bool) →
+      circuitTime (circuitWith file shape arrivals p) vector ≡ circuitTime (circuitWith file shape arrivals q) vector) →
+      (delay : ℕ) → Largest (circuitWith file shape arrivals p) delay →
+      Largest (circuitWith file shape arrivals q) delay
+  largest-by p q same delay l =
+      let r = l .reached in
+      record {
+        bound = λ vector e. subst (λ (t : ℕ). t ≤ delay) (same vector) (l .bound vector e);
+        reached = (r .0, r .1, sym (same (r .0)) ∙ r .2);
+      }
+
+  same-time : (vector : List Bool) →
+      circuitTime (circuitWith file shape arrivals (apart falls)) vector
+      ≡ circuitTime (circuitAt file shape arrivals) vector
+  unfolding circuitTime
+  same-time vector =
+      ap (λ (times : List ℕ). last (λ node. getD times node 0) (netlistAt file shape .outputs))
+      (equal-lists file shape h falls equal arrivals vector .0)
+
+  -- the file's own delays for gates that end at 0 leave the largest settling time of the single form
+  pub largest-equal : (delay : ℕ) →
+      Largest (circuitWith file shape arrivals (apart falls)) delay ↔ Largest (circuitAt file shape arrivals) delay
+  largest-equal delay = (
+    largest-by (apart falls) alike same-time delay,
+    largest-by alike (apart falls) (λ vector. sym (same-time vector)) delay,
+  )

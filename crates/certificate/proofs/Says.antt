@@ -1,13 +1,13 @@
--- What the clauses say under an assignment, over any kind of variables: a clause of parts, that some part is true; a
--- gate's clauses, that its variable is the gate's value; a pair's clauses, that where the pair is true some driver is
--- late and each controlling cube has a late or a false literal; the formula, all of this and that some output is late.
--- Each is an equation of Bools. Laws: clause-says, gate-says, pair-says, late-says, formula-says, late-with-mono.
--- Assumes nothing.
+-- What the clauses say under an assignment, over any slopes and any kind of variables: a clause of parts, that some
+-- part is true; a gate's clauses, that its variable is the gate's value; a pair's clauses, that where the pair is true
+-- its rail fits the gate's value, some driver is late and each controlling cube has a late or a false literal; the
+-- formula, all of this and that some output is late. Each is an equation of Bools. Laws: clause-says, gate-says,
+-- pair-says, late-says, formula-says, late-with-mono. Assumes nothing.
 use mathlib.Core.Path.{_≡_, refl, sym, ap, ap₂, _∙_}
 use mathlib.Core.Bool.{Bool, true, false, not, _&&_, _||_, Bool·beq, cond}
 use mathlib.Core.List.{List, [], _∷_, _++_, map, List·Memᴰ}
 use mathlib.Core.Logic.{_⊎_, inl, inr}
-use Prim.Native.Nat.{ℕ, zero}
+use Prim.Native.Nat.{ℕ, zero, _+_, _*_}
 use native.Mathlib.Omega.{arith}
 use lib.Dec.{T, leb, ltb}
 use lib.ListN.{length}
@@ -31,15 +31,17 @@ use Rattle.basics.proofs.Lists.{
   all-mono,
   all-append,
   all-concatMap,
+  any-append,
   any-concatMap,
   any-map,
 }
 use Rattle.netlist.specs.declared.Kind.{Kind}
 use Rattle.netlist.specs.declared.Kind.the-variants.{Simple, Parity, Mux}
-use Rattle.netlist.specs.Netlist.{Cell, Pin, takes}
+use Rattle.netlist.specs.Netlist.{Cell, Pin, Slopes, alike, apart, takes}
 use Rattle.netlist.proofs.Valid.{takes-parity, takes-mux}
 use Rattle.settle.specs.Settling.{gateValue, Cube, cubes}
 use Rattle.settle.proofs.Cubes.{cube-pin}
+use Rattle.pairs.specs.Rails.{Rail, railsOf, railsAt}
 use Rattle.formula.specs.Formula.{
   Part,
   sure,
@@ -51,6 +53,7 @@ use Rattle.formula.specs.Formula.{
   is,
   gateClauses,
   late,
+  nodeLate,
   driverLate,
   cubeParts,
   cubeClause,
@@ -215,15 +218,38 @@ module _ {P : Type 0} where
 
 -- ---- a pair's clauses
 
-module _ {X : Type 0} (I : ℕ) (top : ℕ → ℕ) (node : ℕ → X) (pair : ℕ → ℕ → X) where
+-- a rail fits a final value of its node: it is the value that the rail speaks of, if it speaks of one
+abbrev pub fits : Rail → Bool → Bool
+fits r value = all (λ b. Bool·beq value b) (r .fixes)
+
+-- what is said of a node by its rails, of which there is one at least, is said once where it does not hang on the rail
+by-rails : (slopes : Slopes) (test : ℕ → Bool) (n : ℕ) (input within none : Bool) →
+    any (λ rail. cond input within (none || within && test rail)) (railsOf slopes n)
+    ≡ cond input within (none || within && any test (railsOf slopes n))
+by-rails alike test n input within none =
+    by-table-of-four (λ i w z a. cond i w (z || w && a) || false) (λ i w z a. cond i w (z || w && (a || false))) tt
+    input
+    within
+    none
+    (test n)
+by-rails (apart falls) test n true within none = by-table-of-one (λ w. w || (w || false)) (λ w. w) tt within
+by-rails (apart falls) test n false within none =
+    by-table-of-four (λ w z a b. (z || w && a) || ((z || w && b) || false))
+    (λ w z a b. z || w && (a || (b || false))) tt
+    within
+    none
+    (test (n * 2))
+    (test (n * 2 + 1))
+
+module _ {X : Type 0} (slopes : Slopes) (I : ℕ) (top : ℕ → ℕ) (node : ℕ → X) (pair : ℕ → ℕ → X) where
   module _ (σ : X → Bool) where
     -- what the assignment says of a node's being late at t
     abbrev pub lateTrue : ℕ → ℕ → Bool
-    lateTrue n t = partTrue σ (late I top node pair n t)
+    lateTrue n t = any (partTrue σ) (nodeLate slopes I top node pair n t)
 
     -- and of a driver
     abbrev pub driverLateTrue : ℕ → Pin → Bool
-    driverLateTrue t p = partTrue σ (driverLate I top node pair t p)
+    driverLateTrue t p = any (partTrue σ) (driverLate slopes I top node pair t p)
 
     -- a literal that is false
     abbrev pub driverFails : Pin → Bool → Bool
@@ -233,69 +259,118 @@ module _ {X : Type 0} (I : ℕ) (top : ℕ → ℕ) (node : ℕ → X) (pair : �
     abbrev pub told : ℕ → Kind → List Pin → Bool
     told t kind ps = lateWith (driverLateTrue t) driverFails kind ps
 
+    -- what it says of a rail's gate at t: the rail fits, and the gate is late by the rail's delays
+    abbrev pub railTold : Rail → ℕ → Bool
+    railTold r t = fits r (σ (node (r .node))) && told t (r .kind) (r .pins)
+
     -- a literal of a cube is late or false
     abbrev slowOrFalse : ℕ → Pin × Bool → Bool
     slowOrFalse t l = driverLateTrue t (l .0) || driverFails (l .0) (l .1)
 
-    cube-says : (t : ℕ) (cube : Cube Pin) → any (partTrue σ) (concatMap (cubeParts I top node pair t) cube) ≡ any
-        (slowOrFalse t) cube
+    cube-says : (t : ℕ) (cube : Cube Pin) →
+        any (partTrue σ) (concatMap (cubeParts slopes I top node pair t) cube) ≡ any (slowOrFalse t) cube
     cube-says t cube =
-        any-concatMap (partTrue σ) (cubeParts I top node pair t) cube
-        ∙ any-cong (λ l. any (partTrue σ) (cubeParts I top node pair t l)) (slowOrFalse t) cube
+        any-concatMap (partTrue σ) (cubeParts slopes I top node pair t) cube
+        ∙ any-cong (λ l. any (partTrue σ) (cubeParts slopes I top node pair t l)) (slowOrFalse t) cube
         (λ l m.
-        by-table-of-two (λ a b. a || (b || false)) (λ a b. a || b) tt
+        any-append (partTrue σ) (driverLate slopes I top node pair t (l .0))
+        (literal (not (l .1)) (node (l .0 .driver)) ∷ [])
+        ∙ by-table-of-two (λ a b. a || (b || false)) (λ a b. a || b) tt
         (driverLateTrue t (l .0))
         (driverFails (l .0) (l .1)))
 
-    cubes-say : (f t : ℕ) (some-cubes : List (Cube Pin)) →
-        all (λ cube. solves σ (cubeClause I top node pair f t cube)) some-cubes
-        ≡ (not (σ (pair f t)) || all (any (slowOrFalse t)) some-cubes)
-    cubes-say f t [] = by-table-of-one (λ a. true) (λ a. not a || true) tt (σ (pair f t))
-    cubes-say f t (cube ∷ rest) =
+    cubes-say : (rail t : ℕ) (some-cubes : List (Cube Pin)) →
+        all (λ cube. solves σ (cubeClause slopes I top node pair rail t cube)) some-cubes
+        ≡ (not (σ (pair rail t)) || all (any (slowOrFalse t)) some-cubes)
+    cubes-say rail t [] = by-table-of-one (λ a. true) (λ a. not a || true) tt (σ (pair rail t))
+    cubes-say rail t (cube ∷ rest) =
         ap₂ (λ a b. a && b)
-        (clause-says σ (literal false (pair f t) ∷ concatMap (cubeParts I top node pair t) cube)
-        ∙ ap (λ b. Bool·beq (σ (pair f t)) false || b) (cube-says t cube))
-        (cubes-say f t rest)
+        (clause-says σ (literal false (pair rail t) ∷ concatMap (cubeParts slopes I top node pair t) cube)
+        ∙ ap (λ b. Bool·beq (σ (pair rail t)) false || b) (cube-says t cube))
+        (cubes-say rail t rest)
         ∙ by-table-of-three (λ p a b. (Bool·beq p false || a) && (not p || b)) (λ p a b. not p || a && b) tt
-        (σ (pair f t))
+        (σ (pair rail t))
         (any (slowOrFalse t) cube)
         (all (any (slowOrFalse t)) rest)
 
-    -- a pair's clauses say: not the pair; or some driver is late, and each controlling cube has a late or a false
-    -- literal
-    pub pair-says : (f : ℕ) (kind : Kind) (ps : List Pin) (t : ℕ) →
-        solves σ (pairClauses I top node pair f kind ps t) ≡ (not (σ (pair f t)) || told t kind ps)
-    unfolding pairClauses
-    pair-says f kind ps t =
-        all-append (any (literalTrue σ))
-        (clauseOf (literal false (pair f t) ∷ map (driverLate I top node pair t) ps))
-        (concatMap (cubeClause I top node pair f t) (cubes kind ps))
-        ∙ ap₂ (λ a b. a && b)
-        (clause-says σ (literal false (pair f t) ∷ map (driverLate I top node pair t) ps)
-        ∙ ap (λ b. Bool·beq (σ (pair f t)) false || b) (any-map (partTrue σ) (driverLate I top node pair t) ps))
-        (all-concatMap (any (literalTrue σ)) (cubeClause I top node pair f t) (cubes kind ps)
-        ∙ cubes-say f t (cubes kind ps))
-        ∙ by-table-of-three (λ p a b. (Bool·beq p false || a) && (not p || b)) (λ p a b. not p || a && b) tt
-        (σ (pair f t))
-        (any (driverLateTrue t) ps)
-        (all (any (slowOrFalse t)) (cubes kind ps))
+    -- not the pair, or the gate has each value that its rail speaks of
+    fixes-say : (rail t n : ℕ) (values : List Bool) →
+        solves σ (map (λ value. (false, pair rail t) ∷ is node n value ∷ []) values)
+        ≡ (not (σ (pair rail t)) || all (λ b. Bool·beq (σ (node n)) b) values)
+    fixes-say rail t n [] = by-table-of-one (λ a. true) (λ a. not a || true) tt (σ (pair rail t))
+    fixes-say rail t n (value ∷ values) =
+        ap (λ b. (Bool·beq (σ (pair rail t)) false || (Bool·beq (σ (node n)) value || false)) && b)
+        (fixes-say rail t n values)
+        ∙ by-table-of-three (λ p a b. (Bool·beq p false || (a || false)) && (not p || b)) (λ p a b. not p || a && b) tt
+        (σ (pair rail t))
+        (Bool·beq (σ (node n)) value)
+        (all (λ b. Bool·beq (σ (node n)) b) values)
 
-    -- what it says that a node is late at t: for an input its top, for a gate t = 0 or the pair's variable
-    pub late-says : (n t : ℕ) →
-        lateTrue n t ≡ cond (ltb n I) (leb t (top n)) (leb t zero || leb t (top n) && σ (pair n t))
+    -- a pair's clauses say: not the pair; or its rail fits, some driver is late, and each controlling cube has a late
+    -- or a false literal
+    pub pair-says : (r : Rail) (t : ℕ) →
+        solves σ (pairClauses slopes I top node pair r t) ≡ (not (σ (pair (r .number) t)) || railTold r t)
+    unfolding pairClauses
+    pair-says r t =
+        all-append (any (literalTrue σ)) ofValues (ofPins ++ ofCubes)
+        ∙ ap₂ (λ a b. a && b) (fixes-say (r .number) t (r .node) (r .fixes))
+        (all-append (any (literalTrue σ)) ofPins ofCubes
+        ∙ ap₂ (λ a b. a && b)
+        (clause-says σ
+        (literal false (pair (r .number) t) ∷ concatMap (driverLate slopes I top node pair t) (r .pins))
+        ∙ ap (λ b. Bool·beq (σ (pair (r .number) t)) false || b)
+        (any-concatMap (partTrue σ) (driverLate slopes I top node pair t) (r .pins)))
+        (all-concatMap (any (literalTrue σ)) (cubeClause slopes I top node pair (r .number) t)
+        (cubes (r .kind) (r .pins))
+        ∙ cubes-say (r .number) t (cubes (r .kind) (r .pins))))
+        ∙ by-table-of-four (λ p v a b. (not p || v) && ((Bool·beq p false || a) && (not p || b)))
+        (λ p v a b. not p || v && (a && b)) tt
+        (σ (pair (r .number) t))
+        (fits r (σ (node (r .node))))
+        (any (driverLateTrue t) (r .pins))
+        (all (any (slowOrFalse t)) (cubes (r .kind) (r .pins)))
+      where
+        ofValues : List (List (Bool × X))
+        ofValues = map (λ value. (false, pair (r .number) t) ∷ is node (r .node) value ∷ []) (r .fixes)
+
+        ofPins : List (List (Bool × X))
+        ofPins =
+            clauseOf (literal false (pair (r .number) t) ∷ concatMap (driverLate slopes I top node pair t) (r .pins))
+
+        ofCubes : List (List (Bool × X))
+        ofCubes = concatMap (cubeClause slopes I top node pair (r .number) t) (cubes (r .kind) (r .pins))
+
+    -- one of a node's pairs at t is true
+    abbrev pub somePair : ℕ → ℕ → Bool
+    somePair n t = any (λ rail. σ (pair rail t)) (railsOf slopes n)
+
+    -- what it says that a node is late at t by one rail
+    rail-late-says : (n rail t : ℕ) →
+        partTrue σ (late slopes I top node pair n rail t)
+        ≡ cond (ltb n I) (leb t (top n)) (leb t zero || leb t (top n) && σ (pair rail t))
     unfolding late
-    late-says n t = go (ltb n I) (leb t (top n)) (leb t zero)
+    rail-late-says n rail t = go (ltb n I) (leb t (top n)) (leb t zero)
       where
         go : (input within none : Bool) →
             partTrue σ
             (cond input (cond within sure never)
-            (cond none sure (cond within (literal true (pair n t)) never)))
-            ≡ cond input within (none || within && σ (pair n t))
+            (cond none sure (cond within (literal true (pair rail t)) never)))
+            ≡ cond input within (none || within && σ (pair rail t))
         go true true none = refl
         go true false none = refl
         go false within true = refl
-        go false true false = by-table-of-one (λ a. Bool·beq a true) (λ a. a) tt (σ (pair n t))
+        go false true false = by-table-of-one (λ a. Bool·beq a true) (λ a. a) tt (σ (pair rail t))
         go false false false = refl
+
+    -- what it says that a node is late at t: for an input its top, for a gate t = 0 or the variable of one of its pairs
+    pub late-says : (n t : ℕ) →
+        lateTrue n t ≡ cond (ltb n I) (leb t (top n)) (leb t zero || leb t (top n) && somePair n t)
+    late-says n t =
+        any-map (partTrue σ) (λ rail. late slopes I top node pair n rail t) (railsOf slopes n)
+        ∙ any-cong (λ rail. partTrue σ (late slopes I top node pair n rail t))
+        (λ rail. cond (ltb n I) (leb t (top n)) (leb t zero || leb t (top n) && σ (pair rail t))) (railsOf slopes n)
+        (λ rail m. rail-late-says n rail t)
+        ∙ by-rails slopes (λ rail. σ (pair rail t)) n (ltb n I) (leb t (top n)) (leb t zero)
 
     -- ---- the formula
 
@@ -303,36 +378,42 @@ module _ {X : Type 0} (I : ℕ) (top : ℕ → ℕ) (node : ℕ → X) (pair : �
     abbrev pub gatesSolved : List (ℕ × Cell) → Bool
     gatesSolved gates = all (λ x. solves σ (gateClauses node (x .1 .kind) (x .1 .pins) (x .0))) gates
 
+    -- the clauses of a rail's pairs are solved
+    abbrev pub railSolved : (ℕ → List ℕ) → Rail → Bool
+    railSolved times r = all (λ t. solves σ (pairClauses slopes I top node pair r t)) (times (r .number))
+
     -- each pair's clauses are solved
     abbrev pub pairsSolved : List (ℕ × Cell) → (ℕ → List ℕ) → Bool
-    pairsSolved gates times =
-        all
-        (λ x. all (λ t. solves σ (pairClauses I top node pair (x .0) (x .1 .kind) (x .1 .pins) t)) (times (x .0)))
-        gates
+    pairsSolved gates times = all (λ x. all (railSolved times) (railsAt slopes x)) gates
 
     -- the formula says: each gate's clauses, each pair's, and some output is late
     pub formula-says : (gates : List (ℕ × Cell)) (times : ℕ → List ℕ) (outputs : List ℕ) (target : ℕ) →
-        solves σ (formula I top node pair gates times outputs target)
+        solves σ (formula slopes I top node pair gates times outputs target)
         ≡ (gatesSolved gates && (pairsSolved gates times && any (λ o. lateTrue o target) outputs))
     unfolding formula
     formula-says gates times outputs target =
-        all-append (any (literalTrue σ)) (concatMap ofGate gates)
-        (concatMap ofPairs gates ++ clauseOf (map (λ o. late I top node pair o target) outputs))
+        all-append (any (literalTrue σ)) (concatMap ofGate gates) (concatMap ofRails gates ++ ofOutputs)
         ∙ ap₂ (λ a b. a && b) (all-concatMap (any (literalTrue σ)) ofGate gates)
-        (all-append (any (literalTrue σ)) (concatMap ofPairs gates)
-        (clauseOf (map (λ o. late I top node pair o target) outputs))
+        (all-append (any (literalTrue σ)) (concatMap ofRails gates) ofOutputs
         ∙ ap₂ (λ a b. a && b)
-        (all-concatMap (any (literalTrue σ)) ofPairs gates
-        ∙ all-cong (λ x. solves σ (ofPairs x)) (λ x. all (λ t. solves σ (ofPair x t)) (times (x .0))) gates
-        (λ x m. all-concatMap (any (literalTrue σ)) (ofPair x) (times (x .0))))
-        (clause-says σ (map (λ o. late I top node pair o target) outputs)
-        ∙ any-map (partTrue σ) (λ o. late I top node pair o target) outputs))
+        (all-concatMap (any (literalTrue σ)) ofRails gates
+        ∙ all-cong (λ x. solves σ (ofRails x)) (λ x. all (railSolved times) (railsAt slopes x)) gates
+        (λ x m.
+        all-concatMap (any (literalTrue σ)) ofPairs (railsAt slopes x)
+        ∙ all-cong (λ r. solves σ (ofPairs r)) (railSolved times) (railsAt slopes x)
+        (λ r i.
+        all-concatMap (any (literalTrue σ)) (pairClauses slopes I top node pair r) (times (r .number)))))
+        (clause-says σ (concatMap (λ o. nodeLate slopes I top node pair o target) outputs)
+        ∙ any-concatMap (partTrue σ) (λ o. nodeLate slopes I top node pair o target) outputs))
       where
         ofGate : ℕ × Cell → List (List (Bool × X))
         ofGate x = gateClauses node (x .1 .kind) (x .1 .pins) (x .0)
 
-        ofPair : ℕ × Cell → ℕ → List (List (Bool × X))
-        ofPair x t = pairClauses I top node pair (x .0) (x .1 .kind) (x .1 .pins) t
+        ofPairs : Rail → List (List (Bool × X))
+        ofPairs r = concatMap (pairClauses slopes I top node pair r) (times (r .number))
 
-        ofPairs : ℕ × Cell → List (List (Bool × X))
-        ofPairs x = concatMap (ofPair x) (times (x .0))
+        ofRails : ℕ × Cell → List (List (Bool × X))
+        ofRails x = concatMap ofPairs (railsAt slopes x)
+
+        ofOutputs : List (List (Bool × X))
+        ofOutputs = clauseOf (concatMap (λ o. nodeLate slopes I top node pair o target) outputs)

@@ -1,7 +1,7 @@
 -- The steps of a certificate call, and how they make the judgement: a refusal of a step is the judgement's, since the
 -- rows before it passed; where all pass, what they left is what acceptance leaves. Laws: time-small; formula-front,
--- refutes-refused, refutes-tested; certified-unsettled, certified-late, certified-tested; judges-unopened,
--- judges-refused, judges-accepted. Assumes nothing.
+-- refutes-refused, refutes-tested; certified-unsettled, certified-late, certified-tested; concludes-refused,
+-- concludes-accepted; judges-unopened, judges-sloped, judges-given. Assumes nothing.
 use mathlib.Core.Path.{_≡_, refl, sym, ap, ap₂, _∙_, subst}
 use mathlib.Core.Bool.{not}
 use mathlib.Core.List.{List, _∷_}
@@ -19,13 +19,12 @@ use Rattle.refusal.specs.declared.Checked.the-variants.{Passes, Refused}
 use Rattle.refusal.specs.Rows.{Row, checked}
 use Rattle.refusal.proofs.Rows.{stops, goes-on, refused-first, passed-first}
 use Rattle.netlist.specs.declared.Shape.{Shape}
-use Rattle.netlist.specs.declared.Opened.{Opened}
 use Rattle.netlist.specs.declared.Opened.the-variants.{Accepted as Taken, Refused as Untaken}
-use Rattle.netlist.specs.Netlist.{valid, Circuit}
-use Rattle.netlist.specs.File.{circuitAt}
-use Rattle.netlist.specs.Open.{openCircuitOf, rowsOver}
-use Rattle.netlist.specs.Holds.{Given}
-use Rattle.netlist.proofs.Calls.{accepted-circuit, rows-accepted, rows-rejected}
+use Rattle.netlist.specs.Netlist.{valid, Circuit, Slopes}
+use Rattle.netlist.specs.File.{circuitWith}
+use Rattle.netlist.specs.Open.{openCircuitOf, slopeRows}
+use Rattle.netlist.specs.Holds.{Given, Sloped}
+use Rattle.netlist.proofs.Calls.{accepted-circuit, rows-accepted, rows-sloped, rows-rejected}
 use Rattle.settle.specs.declared.Settled.{Settled}
 use Rattle.settle.specs.declared.Settled.the-variants.{At, Refused as Unsettled}
 use Rattle.settle.specs.Settling.{circuitTime}
@@ -57,27 +56,29 @@ use Rattle.certificate.specs.Promise.{
   Judges,
   roomsOf,
 }
-use Rattle.certificate.specs.Steps.{Refutes, Certified}
+use Rattle.certificate.specs.Steps.{Refutes, Certified, Concludes}
 use Rattle.certificate.proofs.Numbers.{numbers-well-formed}
+use Rattle.certificate.proofs.Granted.{slopes-small}
 
 -- ---- the vector
 
 -- a time at which a vector settles is small
-pub time-small : {file : List ℕ} {shape : Shape} {arrivals : List ℕ} (vector : List ℕ) (valuesRoom timesRoom : ℕ)
-    {answer : Settled} {time : ℕ} → Given file shape arrivals →
-    answer ≡ evaluationOf (circuitAt file shape arrivals) vector valuesRoom timesRoom .answer → answer ≡ At time →
-    time ≤ latest
-time-small {file} {shape} {arrivals} vector valuesRoom timesRoom g a e =
-    let circuit = circuitAt file shape arrivals in
+pub time-small : {file : List ℕ} {shape : Shape} {arrivals : List ℕ} (slopes : Slopes) (vector : List ℕ)
+    (valuesRoom timesRoom : ℕ) {answer : Settled} {time : ℕ} → Given file shape arrivals → Sloped shape slopes →
+    answer ≡ evaluationOf (circuitWith file shape arrivals slopes) vector valuesRoom timesRoom .answer →
+    answer ≡ At time → time ≤ latest
+time-small {file} {shape} {arrivals} slopes vector valuesRoom timesRoom g sloped a e =
+    let circuit = circuitWith file shape arrivals slopes in
     let s = answer-time circuit vector valuesRoom timesRoom a e in
     let h =
-    circuit-small circuit (g .holds .valid) (net-arrives file (g .arrived)) tt (g .arrived .early) (bits vector)
+    circuit-small circuit (g .holds .valid) (net-arrives file (g .arrived)) (slopes-small shape slopes sloped)
+    (g .arrived .early) (bits vector)
     in
     omega (arith, s .1)
 
 -- ---- the refutation's part
 
--- what the building leaves for the test: the formula's numbers are the front of its slice, and well formula-front
+-- what the building leaves for the test: the formula's numbers are the front of its slice, and well formed
 pub record FormulaFront (circuit : Circuit) (target : ℕ) (counts : Counts) (formula : List ℤ) : Type 0 where
   pub fit : counts .numbers ≤ length formula
   pub numbers-are : take (counts .numbers) formula ≡ numbersFor circuit target
@@ -268,56 +269,79 @@ module _ {circuit : Circuit} {delay : ℕ} {vector : List ℕ} {refutation : Lis
           rooms-are = same-rooms l m (r .pairs-long) (r .formula-long) (r .propagation-long);
         }
 
+-- ---- the judgement of an accepted circuit
+
+module _ {circuit : Circuit} {delay : ℕ} {vector : List ℕ} {refutation : List ℤ} {rooms : Rooms} {answer : Checked}
+    {values times pairs : List ℕ} {formula : List ℤ} {propagation : List ℕ}
+    (c : Certified circuit delay vector refutation rooms answer values times pairs formula propagation) where
+  -- the certificate is refused
+  pub concludes-refused : {refusal : Refusal} {result : Judgement} → answer ≡ Refused refusal →
+      Meets (refused (roomsOf values times pairs formula propagation) refusal) result →
+      Concludes circuit delay vector refutation rooms result
+  concludes-refused {refusal} q z =
+      record {
+        answer = answer;
+        answers = c .answers;
+        meets =
+            meets-as
+            (ap (λ (k : Rooms). refused k refusal) (c .rooms-are)
+            ∙ sym (ap (judgementOf circuit delay vector rooms) q))
+            z;
+      }
+
+  -- it is accepted
+  pub concludes-accepted : answer ≡ Passes →
+      Concludes circuit delay vector refutation rooms (leaving Passes values times pairs formula propagation)
+  concludes-accepted q =
+      record {
+        answer = answer;
+        answers = c .answers;
+        meets = meets-as (sym (ap (judgementOf circuit delay vector rooms) q)) (c .leaves q);
+      }
+
 -- ---- of any bytes
 
-module _ {file arrivals : List ℕ} {delay : ℕ} {vector : List ℕ} {refutation : List ℤ} {rooms : Rooms} where
-  -- the file is refused
-  pub judges-unopened : {opened : Opened} {refusal : Refusal} {result : Judgement} → opened
-      ≡ openCircuitOf file arrivals →
-      opened ≡ Untaken refusal → Meets
-      (refused rooms refusal) result → Judges file arrivals delay vector refutation rooms result
-  judges-unopened {opened} {refusal} o e z =
+module _ {file arrivals : List ℕ} {slopes : Slopes} {delay : ℕ} {vector : List ℕ} {refutation : List ℤ} {rooms : Rooms}
+    {result : Judgement} where
+  -- the file or its arrivals are refused
+  pub judges-unopened : {refusal : Refusal} → openCircuitOf file arrivals ≡ Untaken refusal →
+      Meets (refused rooms refusal) result → Judges file arrivals slopes delay vector refutation rooms result
+  judges-unopened {refusal} e z =
       record {
         answer = Refused refusal;
-        answers = malformed (rows-rejected file arrivals (certificateRows delay vector refutation rooms) (sym o ∙ e));
+        answers = malformed (rows-rejected file arrivals slopes (certificateRows delay vector refutation rooms) e);
         meets = z;
       }
 
-  -- the file is accepted, and its certificate was looked at
-  module _ {opened : Opened} {shape : Shape} {answer : Checked} {values times pairs : List ℕ} {formula : List ℤ}
-      {propagation : List ℕ} (o : opened ≡ openCircuitOf file arrivals) (e : opened ≡ Taken shape)
-      (c : Certified (circuitAt file shape arrivals) delay vector refutation rooms answer values times pairs formula
-      propagation) where
-    judges : {result : Judgement} → Meets
-        (judgementOf (circuitAt file shape arrivals) delay vector rooms answer) result →
-        Judges file arrivals delay vector refutation rooms result
-    judges r =
-        let same = accepted-circuit file arrivals (sym o ∙ e) in
-        record {
-          answer = answer;
-          answers =
-              answers-as (sym (rows-accepted file arrivals (certificateRows delay vector refutation rooms) (sym o ∙ e)))
-              (subst
-              (λ (circuit : Circuit).
-              Answers (certificateRows delay vector refutation rooms (circuitAt file shape arrivals))
-              (clausesOf (numbersFor circuit (suc delay))) (clausesOf refutation) answer)
-              (sym same) (c .answers));
-          meets = meets-as (ap (λ (circuit : Circuit). judgementOf circuit delay vector rooms answer) (sym same)) r;
-        }
+  -- its slopes are
+  pub judges-sloped : {shape : Shape} {refusal : Refusal} → openCircuitOf file arrivals ≡ Taken shape →
+      checked (slopeRows (shape .pins) slopes) ≡ Refused refusal → Meets (refused rooms refusal) result →
+      Judges file arrivals slopes delay vector refutation rooms result
+  judges-sloped {refusal = refusal} e s z =
+      record {
+        answer = Refused refusal;
+        answers = malformed (rows-sloped file arrivals slopes (certificateRows delay vector refutation rooms) e s);
+        meets = z;
+      }
 
-    -- it is refused
-    pub judges-refused : {refusal : Refusal} {result : Judgement} → answer ≡ Refused refusal →
-        Meets (refused (roomsOf values times pairs formula propagation) refusal) result →
-        Judges file arrivals delay vector refutation rooms result
-    judges-refused {refusal} q z =
-        judges
-        (meets-as
-        (ap (λ (k : Rooms). refused k refusal) (c .rooms-are)
-        ∙ sym (ap (judgementOf (circuitAt file shape arrivals) delay vector rooms) q))
-        z)
-
-    -- it is accepted
-    pub judges-accepted : answer ≡ Passes →
-        Judges file arrivals delay vector refutation rooms (leaving Passes values times pairs formula propagation)
-    judges-accepted q =
-        judges (meets-as (sym (ap (judgementOf (circuitAt file shape arrivals) delay vector rooms) q)) (c .leaves q))
+  -- all are accepted, and the certificate is judged
+  pub judges-given : {shape : Shape} → openCircuitOf file arrivals ≡ Taken shape →
+      checked (slopeRows (shape .pins) slopes) ≡ Passes →
+      Concludes (circuitWith file shape arrivals slopes) delay vector refutation rooms result →
+      Judges file arrivals slopes delay vector refutation rooms result
+  judges-given {shape} e s c =
+      let same = accepted-circuit file arrivals slopes e in
+      record {
+        answer = c .answer;
+        answers =
+            answers-as
+            (sym (rows-accepted file arrivals slopes (certificateRows delay vector refutation rooms) e s))
+            (subst
+            (λ (circuit : Circuit).
+            Answers (certificateRows delay vector refutation rooms (circuitWith file shape arrivals slopes))
+            (clausesOf (numbersFor circuit (suc delay))) (clausesOf refutation) (c .answer))
+            (sym same) (c .answers));
+        meets =
+            meets-as (ap (λ (circuit : Circuit). judgementOf circuit delay vector rooms (c .answer)) (sym same))
+            (c .meets);
+      }

@@ -62,7 +62,7 @@ numbers-stand =
 
 -- what an evaluation with the row's rooms gives
 abbrev evaluated : Settling → Evaluation
-evaluated c = evaluation (c .file) (c .arrivals) alike (c .vector) (length (c .expected .values))
+evaluated c = evaluation (c .file) (c .arrivals) (c .slopes) (c .vector) (length (c .expected .values))
     (length (c .expected .times))
 
 pub table-stands : (r : Entry) → List·Memᴰ r table → Stands r

@@ -4,6 +4,7 @@ use mathlib.Core.List.{List}
 use Prim.Native.Nat.{ℕ}
 use lib.IntN.{ℤ}
 use Rattle.refusal.specs.declared.Checked.{Checked}
+use Rattle.netlist.specs.Netlist.{Slopes}
 use Rattle.netlist.specs.File.{circuitOf}
 use Rattle.refute.proofs.Unique.{answers-unique}
 use Rattle.certificate.specs.Promise.{Rooms, Judgement, Meets, leaving, judgementOf, Judges}
@@ -19,14 +20,13 @@ same p q =
     (p .times-are ∙ sym (q .times-are)) (p .pairs-are ∙ sym (q .pairs-are)) (p .formula-is ∙ sym (q .formula-is))
     (p .propagation-is ∙ sym (q .propagation-is))
 
--- one answer and one content of the slices, of any bytes, any delay, any vector and any refutation
-pub judges-unique : (file arrivals : List ℕ) (delay : ℕ) (vector : List ℕ) (refutation : List ℤ) (rooms : Rooms)
-    (a b : Judgement) → Judges file arrivals delay vector refutation rooms a → Judges file arrivals delay vector
-    refutation rooms b →
-    a ≡ b
-judges-unique file arrivals delay vector refutation rooms a b p q =
+-- one answer and one content of the slices, of any bytes, any slopes, any delay, any vector and any refutation
+pub judges-unique : (file arrivals : List ℕ) (slopes : Slopes) (delay : ℕ) (vector : List ℕ) (refutation : List ℤ)
+    (rooms : Rooms) (a b : Judgement) → Judges file arrivals slopes delay vector refutation rooms a →
+    Judges file arrivals slopes delay vector refutation rooms b → a ≡ b
+judges-unique file arrivals slopes delay vector refutation rooms a b p q =
     same
     (subst (λ (promised : Judgement). Meets promised a)
-    (ap (judgementOf (circuitOf file arrivals) delay vector rooms) (answers-unique (p .answers) (q .answers)))
+    (ap (judgementOf (circuitOf file arrivals slopes) delay vector rooms) (answers-unique (p .answers) (q .answers)))
     (p .meets))
     (q .meets)

@@ -1,6 +1,7 @@
 -- The variables of the formula: what is allowed of each node's variable and of each listed pair's is allowed of all
--- that stand in it, over any kind of variables. So the numbers of a valid netlist's formula run from 1 to V = N +
--- pairs: a pair's place is below the number of pairs. Laws: formula-allowed, formula-variables. Assumes nothing.
+-- that stand in it, over any slopes and any kind of variables. So the numbers of a valid circuit's formula run from 1
+-- to V = N + pairs: a pair's place is below the number of pairs. Laws: formula-allowed, formula-variables. Assumes
+-- nothing.
 use mathlib.Core.Path.{_≡_, refl, sym, ap, subst}
 use mathlib.Core.Bool.{Bool, true, false, not, _&&_, cond}
 use mathlib.Core.List.{
@@ -13,7 +14,9 @@ use mathlib.Core.List.{
   List·Memᴰ·head,
   List·Memᴰ·tail,
   List·Memᴰ·not-nil,
+  List·Memᴰ·append-cases,
 }
+use mathlib.Core.Logic.{_⊎_, inl, inr}
 use Prim.Native.Nat.{ℕ, zero, suc, _+_, _-_, _≤_, _<_}
 use native.Mathlib.Omega.{arith}
 use lib.Dec.{T, leb, ltb, leb→le, le→leb, lt→ltb, nltb→le, leb·zero, leb·suc-zero}
@@ -23,10 +26,11 @@ use Rattle.basics.proofs.Truth.{is-true, and-both, and-left, and-right}
 use Rattle.basics.proofs.Lists.{all-of, all-join, all-concatMap-of, map-mem, concatMap-mem}
 use Rattle.netlist.specs.declared.Kind.{Kind}
 use Rattle.netlist.specs.declared.Kind.the-variants.{Simple, Parity, Mux}
-use Rattle.netlist.specs.Netlist.{Cell, Pin, nodeCount, valid, Circuit}
+use Rattle.netlist.specs.Netlist.{Cell, Pin, nodeCount, valid, Circuit, Slopes}
 use Rattle.settle.specs.Settling.{Cube, cubes}
 use Rattle.settle.proofs.Cubes.{cube-pin}
 use Rattle.settle.proofs.Nodes.{Laid, laid}
+use Rattle.pairs.specs.Rails.{Rail, railsOf, railsAt}
 use Rattle.pairs.specs.Pairs.{pairsFor, pairPlace}
 use Rattle.pairs.proofs.Closed.{Closed, closed-for, placed-for}
 use Rattle.formula.specs.Formula.{
@@ -40,6 +44,7 @@ use Rattle.formula.specs.Formula.{
   is,
   gateClauses,
   late,
+  nodeLate,
   driverLate,
   cubeParts,
   cubeClause,
@@ -49,7 +54,7 @@ use Rattle.formula.specs.Formula.{
   pairVariable,
   formulaFor,
 }
-use Rattle.certificate.proofs.Facts.{Listed, driver-in}
+use Rattle.certificate.proofs.Facts.{Listed, rail-of, driver-in, pin-in}
 
 -- ---- what is allowed of the variables
 
@@ -125,103 +130,146 @@ module _ {X : Type 0} (allowed : X → Bool) where
   gate-allowed node Mux (s ∷ a ∷ []) f g h = tt
   gate-allowed node Mux (s ∷ a ∷ b ∷ c ∷ ps) f g h = tt
 
-module _ {I N : ℕ} {gates : List (ℕ × Cell)} {top : ℕ → ℕ} {times : ℕ → List ℕ} {outputs : List ℕ} {target : ℕ}
-    (laid : Laid I N gates) (closed : Closed I gates top times outputs target)
+module _ {slopes : Slopes} {I N : ℕ} {gates : List (ℕ × Cell)} {top : ℕ → ℕ} {times : ℕ → List ℕ} {outputs : List ℕ}
+    {target : ℕ} (laid : Laid I N gates) (closed : Closed slopes I gates top times outputs target)
     {X : Type 0} (node : ℕ → X) (pair : ℕ → ℕ → X) (allowed : X → Bool)
     (nodes-allowed : (n : ℕ) → n < N → T (allowed (node n)))
-    (pairs-allowed : (n t : ℕ) → List·Memᴰ t (times n) → T (allowed (pair n t))) where
-  late-allowed : (n t : ℕ) → Listed I top times n t → T (partAllowed allowed (late I top node pair n t))
+    (pairs-allowed : (rail t : ℕ) → List·Memᴰ t (times rail) → T (allowed (pair rail t))) where
+  late-allowed : (n t : ℕ) → Listed slopes I top times n t → (rail : ℕ) → List·Memᴰ rail (railsOf slopes n) →
+      T (partAllowed allowed (late slopes I top node pair n rail t))
   unfolding late
-  late-allowed n zero l = rw (leb·zero (top n)) (go (ltb n I))
+  late-allowed n zero l rail m = rw (leb·zero (top n)) (go (ltb n I))
     where
       go : (b : Bool) → T (partAllowed allowed (cond b sure sure))
       go true = tt
       go false = tt
-  late-allowed n (suc t) l = rw (leb·suc-zero t) (go (ltb n I) (leb (suc t) (top n)) refl refl)
+  late-allowed n (suc t) l rail m = rw (leb·suc-zero t) (go (ltb n I) (leb (suc t) (top n)) refl refl)
     where
       go : (a b : Bool) → ltb n I ≡ a → leb (suc t) (top n) ≡ b →
-          T (partAllowed allowed (cond a (cond b sure never) (cond b (literal true (pair n (suc t))) never)))
+          T (partAllowed allowed (cond a (cond b sure never) (cond b (literal true (pair rail (suc t))) never)))
       go true true e f = tt
       go true false e f = tt
       go false true e f =
-          pairs-allowed n (suc t)
+          pairs-allowed rail (suc t)
           (l (nltb→le n I (subst T (sym (ap not e)) tt)) (omega arith)
-          (leb→le (suc t) (top n) (subst T (sym f) tt)))
+          (leb→le (suc t) (top n) (subst T (sym f) tt)) rail m)
       go false false e f = tt
 
-  driver-allowed : (x : ℕ × Cell) → List·Memᴰ x gates → (t : ℕ) → List·Memᴰ t (times (x .0)) → (p : Pin) →
-      List·Memᴰ p (x .1 .pins) → T (partAllowed allowed (driverLate I top node pair t p))
-  driver-allowed x m t i p j = late-allowed (p .driver) (t - p .delay) (closed .drivers-in (x .0) (x .1) m t i p j)
+  -- a node's being late, by each of its rails
+  node-allowed : (n t : ℕ) → Listed slopes I top times n t → (part : Part X) →
+      List·Memᴰ part (nodeLate slopes I top node pair n t) → T (partAllowed allowed part)
+  node-allowed n t l part m =
+      let w = map-mem (λ rail. late slopes I top node pair n rail t) (railsOf slopes n) part m in
+      subst (λ z. T (partAllowed allowed z)) (sym (w .2)) (late-allowed n t l (w .0) (w .1))
 
-  cube-allowed : (x : ℕ × Cell) → List·Memᴰ x gates → (t : ℕ) → List·Memᴰ t (times (x .0)) → (cube : Cube Pin) →
-      List·Memᴰ cube (cubes (x .1 .kind) (x .1 .pins)) →
-      T (clausesAllowed allowed (cubeClause I top node pair (x .0) t cube))
-  cube-allowed x m t i cube c =
-      clause-allowed allowed (literal false (pair (x .0) t) ∷ concatMap (cubeParts I top node pair t) cube)
-      (and-both (allowed (pair (x .0) t)) (all (partAllowed allowed) (concatMap (cubeParts I top node pair t) cube))
-      (pairs-allowed (x .0) t i)
-      (all-of (partAllowed allowed) (concatMap (cubeParts I top node pair t) cube)
-      (λ r k.
-      let w = concatMap-mem (cubeParts I top node pair t) cube r k in
-      each (w .0) r (cube-pin (x .1 .kind) (x .1 .pins) cube c (w .0) (w .1)) (w .2))))
-    where
-      each : (l : Pin × Bool) (r : Part X) → List·Memᴰ (l .0) (x .1 .pins) →
-          List·Memᴰ r (cubeParts I top node pair t l) → T (partAllowed allowed r)
-      each l r j (List·Memᴰ·head e) =
-          subst (λ z. T (partAllowed allowed z)) (sym e) (driver-allowed x m t i (l .0) j)
-      each l r j (List·Memᴰ·tail (List·Memᴰ·head e)) =
-          subst (λ z. T (partAllowed allowed z)) (sym e)
-          (nodes-allowed (l .0 .driver) (driver-in laid (x .0) (x .1) m (l .0) j))
-      each l r j (List·Memᴰ·tail (List·Memᴰ·tail k)) = absurd (List·Memᴰ·not-nil k)
+  module _ (x : ℕ × Cell) (m : List·Memᴰ x gates) (r : Rail) (i : List·Memᴰ r (railsAt slopes x)) (t : ℕ)
+      (j : List·Memᴰ t (times (r .number))) where
+    driver-allowed : (p : Pin) → List·Memᴰ p (r .pins) → (part : Part X) →
+        List·Memᴰ part (driverLate slopes I top node pair t p) → T (partAllowed allowed part)
+    driver-allowed p k = node-allowed (p .driver) (t - p .delay) (closed .drivers-in x m r i t j p k)
 
-  pair-allowed : (x : ℕ × Cell) → List·Memᴰ x gates → (t : ℕ) → List·Memᴰ t (times (x .0)) →
-      T (clausesAllowed allowed (pairClauses I top node pair (x .0) (x .1 .kind) (x .1 .pins) t))
-  unfolding pairClauses
-  pair-allowed x m t i =
-      all-join (all (literalAllowed allowed))
-      (clauseOf (literal false (pair (x .0) t) ∷ map (driverLate I top node pair t) (x .1 .pins)))
-      (concatMap (cubeClause I top node pair (x .0) t) (cubes (x .1 .kind) (x .1 .pins)))
-      (clause-allowed allowed (literal false (pair (x .0) t) ∷ map (driverLate I top node pair t) (x .1 .pins))
-      (and-both (allowed (pair (x .0) t)) (all (partAllowed allowed) (map (driverLate I top node pair t) (x .1 .pins)))
-      (pairs-allowed (x .0) t i)
-      (all-of (partAllowed allowed) (map (driverLate I top node pair t) (x .1 .pins))
-      (λ r k.
-      let w = map-mem (driverLate I top node pair t) (x .1 .pins) r k in
-      subst (λ z. T (partAllowed allowed z)) (sym (w .2)) (driver-allowed x m t i (w .0) (w .1))))))
-      (all-concatMap-of (all (literalAllowed allowed)) (cubeClause I top node pair (x .0) t)
-      (cubes (x .1 .kind) (x .1 .pins)) (cube-allowed x m t i))
+    cube-allowed : (cube : Cube Pin) → List·Memᴰ cube (cubes (r .kind) (r .pins)) →
+        T (clausesAllowed allowed (cubeClause slopes I top node pair (r .number) t cube))
+    cube-allowed cube c =
+        clause-allowed allowed
+        (literal false (pair (r .number) t) ∷ concatMap (cubeParts slopes I top node pair t) cube)
+        (and-both (allowed (pair (r .number) t))
+        (all (partAllowed allowed) (concatMap (cubeParts slopes I top node pair t) cube))
+        (pairs-allowed (r .number) t j)
+        (all-of (partAllowed allowed) (concatMap (cubeParts slopes I top node pair t) cube)
+        (λ part k.
+        let w = concatMap-mem (cubeParts slopes I top node pair t) cube part k in
+        let pin = cube-pin (r .kind) (r .pins) cube c (w .0) (w .1) in
+        each (w .0) part pin
+        (List·Memᴰ·append-cases (driverLate slopes I top node pair t (w .0 .0)) (w .2)))))
+      where
+        each : (l : Pin × Bool) (part : Part X) → List·Memᴰ (l .0) (r .pins) →
+            List·Memᴰ part (driverLate slopes I top node pair t (l .0))
+            ⊎ List·Memᴰ part (literal (not (l .1)) (node (l .0 .driver)) ∷ []) → T (partAllowed allowed part)
+        each l part k (inl u) = driver-allowed (l .0) k part u
+        each l part k (inr (List·Memᴰ·head e)) =
+            subst (λ z. T (partAllowed allowed z)) (sym e)
+            (nodes-allowed (l .0 .driver) (driver-in laid slopes (x .0) (x .1) m r i (l .0) k))
+        each l part k (inr (List·Memᴰ·tail u)) = absurd (List·Memᴰ·not-nil u)
+
+    pair-allowed : T (clausesAllowed allowed (pairClauses slopes I top node pair r t))
+    unfolding pairClauses
+    pair-allowed =
+        all-join (all (literalAllowed allowed)) ofValues (ofPins ++ ofCubes)
+        (all-of (all (literalAllowed allowed)) ofValues
+        (λ clause k.
+        let w = map-mem ofValue (r .fixes) clause k in
+        subst (λ z. T (all (literalAllowed allowed) z)) (sym (w .2))
+        (rw (
+          is-true (allowed (pair (r .number) t)) (pairs-allowed (r .number) t j),
+          is-true (allowed (node (r .node))) own,
+        )
+        tt)))
+        (all-join (all (literalAllowed allowed)) ofPins ofCubes
+        (clause-allowed allowed
+        (literal false (pair (r .number) t) ∷ concatMap (driverLate slopes I top node pair t) (r .pins))
+        (and-both (allowed (pair (r .number) t))
+        (all (partAllowed allowed) (concatMap (driverLate slopes I top node pair t) (r .pins)))
+        (pairs-allowed (r .number) t j)
+        (all-of (partAllowed allowed) (concatMap (driverLate slopes I top node pair t) (r .pins))
+        (λ part k.
+        let w = concatMap-mem (driverLate slopes I top node pair t) (r .pins) part k in
+        driver-allowed (w .0) (w .1) part (w .2)))))
+        (all-concatMap-of (all (literalAllowed allowed)) (cubeClause slopes I top node pair (r .number) t)
+        (cubes (r .kind) (r .pins)) cube-allowed))
+      where
+        own : T (allowed (node (r .node)))
+        own =
+            subst (λ n. T (allowed (node n))) (sym (rail-of slopes x r i .node-is))
+            (nodes-allowed (x .0) (laid .high (x .0) (x .1) m))
+
+        ofValue : Bool → List (Bool × X)
+        ofValue value = (false, pair (r .number) t) ∷ is node (r .node) value ∷ []
+
+        ofValues : List (List (Bool × X))
+        ofValues = map ofValue (r .fixes)
+
+        ofPins : List (List (Bool × X))
+        ofPins =
+            clauseOf (literal false (pair (r .number) t) ∷ concatMap (driverLate slopes I top node pair t) (r .pins))
+
+        ofCubes : List (List (Bool × X))
+        ofCubes = concatMap (cubeClause slopes I top node pair (r .number) t) (cubes (r .kind) (r .pins))
 
   -- what is allowed of each node's and each listed pair's variable is allowed of the formula's
-  pub formula-allowed : T (clausesAllowed allowed (formula I top node pair gates times outputs target))
+  pub formula-allowed : T (clausesAllowed allowed (formula slopes I top node pair gates times outputs target))
   unfolding formula
   formula-allowed =
       all-join (all (literalAllowed allowed)) (concatMap ofGate gates)
-      (concatMap ofPairs gates ++ clauseOf (map outputLate outputs))
+      (concatMap ofRails gates ++ clauseOf (concatMap outputLate outputs))
       (all-concatMap-of (all (literalAllowed allowed)) ofGate gates
       (λ x m.
       gate-allowed allowed node (x .1 .kind) (x .1 .pins) (x .0) (nodes-allowed (x .0) (laid .high (x .0) (x .1) m))
-      (λ p i. nodes-allowed (p .driver) (driver-in laid (x .0) (x .1) m p i))))
-      (all-join (all (literalAllowed allowed)) (concatMap ofPairs gates) (clauseOf (map outputLate outputs))
-      (all-concatMap-of (all (literalAllowed allowed)) ofPairs gates
-      (λ x m. all-concatMap-of (all (literalAllowed allowed)) (ofPair x) (times (x .0)) (pair-allowed x m)))
-      (clause-allowed allowed (map outputLate outputs)
-      (all-of (partAllowed allowed) (map outputLate outputs)
+      (λ p i. nodes-allowed (p .driver) (pin-in laid (x .0) (x .1) m p i))))
+      (all-join (all (literalAllowed allowed)) (concatMap ofRails gates) (clauseOf (concatMap outputLate outputs))
+      (all-concatMap-of (all (literalAllowed allowed)) ofRails gates
+      (λ x m.
+      all-concatMap-of (all (literalAllowed allowed)) ofPairs (railsAt slopes x)
       (λ r i.
-      let w = map-mem outputLate outputs r i in
-      subst (λ z. T (partAllowed allowed z)) (sym (w .2))
-      (late-allowed (w .0) target (closed .outputs-in (w .0) (w .1)))))))
+      all-concatMap-of (all (literalAllowed allowed)) (pairClauses slopes I top node pair r) (times (r .number))
+      (pair-allowed x m r i))))
+      (clause-allowed allowed (concatMap outputLate outputs)
+      (all-of (partAllowed allowed) (concatMap outputLate outputs)
+      (λ part i.
+      let w = concatMap-mem outputLate outputs part i in
+      node-allowed (w .0) target (closed .outputs-in (w .0) (w .1)) part (w .2)))))
     where
       ofGate : ℕ × Cell → List (List (Bool × X))
       ofGate x = gateClauses node (x .1 .kind) (x .1 .pins) (x .0)
 
-      ofPair : ℕ × Cell → ℕ → List (List (Bool × X))
-      ofPair x t = pairClauses I top node pair (x .0) (x .1 .kind) (x .1 .pins) t
+      ofPairs : Rail → List (List (Bool × X))
+      ofPairs r = concatMap (pairClauses slopes I top node pair r) (times (r .number))
 
-      ofPairs : ℕ × Cell → List (List (Bool × X))
-      ofPairs x = concatMap (ofPair x) (times (x .0))
+      ofRails : ℕ × Cell → List (List (Bool × X))
+      ofRails x = concatMap ofPairs (railsAt slopes x)
 
-      outputLate : ℕ → Part X
-      outputLate o = late I top node pair o target
+      outputLate : ℕ → List (Part X)
+      outputLate o = nodeLate slopes I top node pair o target
 
 -- ---- over integers
 
@@ -244,7 +292,8 @@ formula-variables circuit ok target =
     formula-allowed (laid (circuit .net) ok) (closed-for circuit ok target) nodeVariable
     (pairVariable circuit target) (isVariable (variablesFor circuit target))
     (λ n h. is-variable (variablesFor circuit target) (suc n) (omega arith) (omega arith))
-    (λ n t m.
-    let below = placed-for circuit ok target n t m in
-    is-variable (variablesFor circuit target) (suc (nodeCount (circuit .net) + pairPlace n t (pairsFor circuit target)))
+    (λ rail t m.
+    let below = placed-for circuit ok target rail t m in
+    is-variable (variablesFor circuit target)
+    (suc (nodeCount (circuit .net) + pairPlace rail t (pairsFor circuit target)))
     (omega arith) (omega arith))

@@ -7,6 +7,7 @@ use lib.ListN.{replicate}
 use Rattle.refusal.specs.declared.Refusal.the-variants.{Vector, Room, Pairs, Refutation, Last, Step, Witness}
 use Rattle.refusal.specs.declared.Checked.{Checked}
 use Rattle.refusal.specs.declared.Checked.the-variants.{Passes, Refused}
+use Rattle.netlist.specs.Netlist.{Slopes, alike, apart}
 use Rattle.netlist.specs.File.{inputs}
 use Rattle.netlist.specs.Example.{circuitA}
 use Rattle.certificate.specs.Promise.{Rooms}
@@ -15,6 +16,7 @@ use Rattle.certificate.specs.Promise.{Rooms}
 pub record Case : Type 0 where
   pub file : List ℕ
   pub arrivals : List ℕ
+  pub slopes : Slopes
   pub delay : ℕ
   pub vector : List ℕ
   pub refutation : List ℤ
@@ -27,17 +29,26 @@ lending values times pairs formula propagation =
     record { values = values; times = times; pairs = pairs; formula = formula; propagation = propagation }
 
 -- a call and its answer
-abbrev pub arriving : List ℕ → List ℕ → ℕ → List ℕ → List ℤ → Rooms → Checked → Case
-arriving file arrivals delay vector refutation rooms answer =
+abbrev pub given : List ℕ → List ℕ → Slopes → ℕ → List ℕ → List ℤ → Rooms → Checked → Case
+given file arrivals slopes delay vector refutation rooms answer =
     record {
       file = file;
       arrivals = arrivals;
+      slopes = slopes;
       delay = delay;
       vector = vector;
       refutation = refutation;
       rooms = rooms;
       answer = answer;
     }
+
+-- with one delay a pin
+abbrev pub arriving : List ℕ → List ℕ → ℕ → List ℕ → List ℤ → Rooms → Checked → Case
+arriving file arrivals = given file arrivals alike
+
+-- with other delays for gates that end at 0, all inputs at 0
+abbrev pub falling : List ℕ → List ℕ → ℕ → List ℕ → List ℤ → Rooms → Checked → Case
+falling file falls = given file (replicate (inputs file) 0) (apart falls)
 
 -- all inputs at 0
 abbrev pub case : List ℕ → ℕ → List ℕ → List ℤ → Rooms → Checked → Case

@@ -1,6 +1,6 @@
--- What `judge` answers and leaves in the five lent slices, for every input, by the checks of rule C3. The rows of
--- evaluation, of building and of the test of a refutation are those of crates settle, formula and refute. Interface:
--- Judges.
+-- What `judge` and `judge_rise_fall` answer and leave in the five lent slices, for every input, by the checks of rule
+-- C3. The rows of evaluation, of building and of the test of a refutation are those of crates settle, formula and
+-- refute. Interface: Judges.
 use mathlib.Core.Path.{_≡_}
 use mathlib.Core.Bool.{not}
 use mathlib.Core.List.{List, _∷_, _++_}
@@ -13,7 +13,7 @@ use Rattle.refusal.specs.declared.Refusal.the-variants.{Witness}
 use Rattle.refusal.specs.declared.Checked.{Checked}
 use Rattle.refusal.specs.declared.Checked.the-variants.{Passes, Refused}
 use Rattle.refusal.specs.Rows.{Row, unlessRefused}
-use Rattle.netlist.specs.Netlist.{Circuit}
+use Rattle.netlist.specs.Netlist.{Circuit, Slopes}
 use Rattle.netlist.specs.File.{circuitOf}
 use Rattle.netlist.specs.Open.{rowsOver}
 use Rattle.settle.specs.Settling.{circuitTime}
@@ -126,12 +126,13 @@ abbrev pub judgementOf : Circuit → ℕ → List ℕ → Rooms → Checked → 
 judgementOf circuit delay vector rooms answer = unlessRefused answer (refused rooms)
     (certified circuit delay vector rooms)
 
--- of any bytes, any arrivals, any delay, any vector and any refutation: the first row before 14 that refuses; or else
--- 14 STEP, or acceptance, by the order-free verdict on the refutation against the very numbers of the formula for D+1
-pub record Judges (file arrivals : List ℕ) (delay : ℕ) (vector : List ℕ) (refutation : List ℤ) (rooms : Rooms)
-    (result : Judgement) : Type 0 where
+-- of any bytes, any arrivals, any slopes, any delay, any vector and any refutation: the first row before 14 that
+-- refuses; or else 14 STEP, or acceptance, by the order-free verdict on the refutation against the very numbers of the
+-- formula for D+1
+pub record Judges (file arrivals : List ℕ) (slopes : Slopes) (delay : ℕ) (vector : List ℕ) (refutation : List ℤ)
+    (rooms : Rooms) (result : Judgement) : Type 0 where
   pub answer : Checked
   pub answers :
-      Answers (rowsOver file arrivals (certificateRows delay vector refutation rooms))
-      (clausesOf (numbersFor (circuitOf file arrivals) (suc delay))) (clausesOf refutation) answer
-  pub meets : Meets (judgementOf (circuitOf file arrivals) delay vector rooms answer) result
+      Answers (rowsOver file arrivals slopes (certificateRows delay vector refutation rooms))
+      (clausesOf (numbersFor (circuitOf file arrivals slopes) (suc delay))) (clausesOf refutation) answer
+  pub meets : Meets (judgementOf (circuitOf file arrivals slopes) delay vector rooms answer) result

@@ -1,5 +1,6 @@
--- The steps of a certificate call on an accepted circuit: the refutation's part, and the whole certificate.
--- Each with its rows and what it leaves in its slices. These serve the code. Interface: Refutes, Certified.
+-- The steps of a certificate call on an accepted circuit: the refutation's part, the whole certificate, and the
+-- judgement of it. Each with its rows and what it leaves in its slices. These serve the code. Interface: Refutes,
+-- Certified, Concludes.
 use mathlib.Core.Path.{_≡_}
 use mathlib.Core.List.{List}
 use Prim.Native.Nat.{ℕ, suc}
@@ -13,12 +14,14 @@ use Rattle.refute.specs.Promise.{Answers}
 use Rattle.formula.specs.Promise.{numbersFor, buildingOf}
 use Rattle.certificate.specs.Promise.{
   Rooms,
+  Judgement,
   Meets,
   refutingRows,
   certificateRows,
   roomsOf,
   leaving,
   certified,
+  judgementOf,
 }
 
 -- the formula for a target is built, and the refutation tested against its numbers
@@ -43,3 +46,12 @@ pub record Certified (circuit : Circuit) (delay : ℕ) (vector : List ℕ) (refu
   pub leaves : answer ≡ Passes →
       Meets (certified circuit delay vector rooms) (leaving Passes values times pairs formula propagation)
   pub rooms-are : roomsOf values times pairs formula propagation ≡ rooms
+
+-- the judgement: what the rows and the verdict answer, and what that leaves in every slice
+pub record Concludes (circuit : Circuit) (delay : ℕ) (vector : List ℕ) (refutation : List ℤ) (rooms : Rooms)
+    (result : Judgement) : Type 0 where
+  pub answer : Checked
+  pub answers :
+      Answers (certificateRows delay vector refutation rooms circuit) (clausesOf (numbersFor circuit (suc delay)))
+      (clausesOf refutation) answer
+  pub meets : Meets (judgementOf circuit delay vector rooms answer) result

@@ -43,16 +43,19 @@ abbrev pub Stands : Entry → Type 0
 Stands (numbers c) = (numberOf (c .refusal) ≡ c .number) × (placeOf (c .refusal) ≡ c .place)
 Stands (opens c) = openOf (c .file) ≡ c .answer
 Stands (settles c) =
-    evaluation (c .file) (c .arrivals) alike (c .vector) (length (c .expected .values)) (length (c .expected .times))
+    evaluation (c .file) (c .arrivals) (c .slopes) (c .vector) (length (c .expected .values))
+    (length (c .expected .times))
     ≡ c .expected
 Stands (forms c) = building circuitA (0 ∷ 0 ∷ []) alike (c .target) (c .pairsRoom) (c .formulaRoom) ≡ c .leaves
 Stands (builds c) =
-    building (c .file) (c .arrivals) alike (c .target) (length (c .leaves .pairs)) (length (c .leaves .formula)) ≡ c .leaves
+    building (c .file) (c .arrivals) alike (c .target) (length (c .leaves .pairs)) (length (c .leaves .formula))
+    ≡ c .leaves
 Stands (checks c) = Checks (c .variables) (c .formula) (c .refutation) (c .room) (c .answer)
 Stands (follows f) =
     (c : List Literal) → List·Memᴰ c (clausesOf (f .clause)) → Follows (clausesOf (f .formula)) c
 Stands (certifies c) =
-    (result : Judgement) × Judges (c .file) (c .arrivals) (c .delay) (c .vector) (c .refutation) (c .rooms) result
+    (result : Judgement)
+    × Judges (c .file) (c .arrivals) (c .slopes) (c .delay) (c .vector) (c .refutation) (c .rooms) result
     × (result .answer ≡ c .answer)
 
 -- the table

@@ -1,6 +1,7 @@
 // The judgement of a delay certificate: a delay, a vector that settles at it, and a refutation of the formula for one
-// more. Assumes nothing.
+// more; for circuits with one delay a pin, and for those with delays of rise and of fall. Assumes nothing.
 use formula::Built;
+use netlist::Form;
 use netlist::Opened;
 use netlist::Shape;
 use refusal::Checked;
@@ -8,12 +9,15 @@ use refusal::Refusal;
 use settle::Settled;
 ghost use mathlib.Core.Path.{_≡_};
 ghost use lib.ListN.{length};
-ghost use Rattle.netlist.specs.Holds.{Given};
-ghost use Rattle.netlist.specs.File.{circuitAt, circuitOf};
+ghost use Rattle.netlist.specs.declared.Opened.the-variants.{Accepted};
+ghost use Rattle.netlist.specs.Netlist.{alike, apart, slopesBy};
+ghost use Rattle.netlist.specs.File.{circuitWith, circuitOf};
+ghost use Rattle.netlist.specs.Open.{openCircuitOf};
+ghost use Rattle.netlist.specs.Holds.{Given, Sloped};
 ghost use Rattle.refusal.specs.declared.Checked.the-variants.{Passes};
 ghost use Rattle.certificate.specs.Largest.{Largest};
 ghost use Rattle.certificate.specs.Promise.{Meets, roomsOf, leaving, refused, Judges};
-ghost use Rattle.certificate.specs.Steps.{Refutes, Certified};
+ghost use Rattle.certificate.specs.Steps.{Refutes, Certified, Concludes};
 
 // A refusal: every lent slice is zeroed.
 fn refuse(
@@ -45,19 +49,22 @@ fn refutes(
     file: &[u8],
     shape: Shape,
     arrivals: &[u32],
+    form: Form,
+    falls: &[u32],
     target: u32,
     refutation: &[i32],
     pairs: &mut [u32],
     formula: &mut [i32],
     propagation: &mut [u8],
 ) -> Checked
-    requires { ⌜ Given (now file) shape (now arrivals) ⌝ }
-    ensures { λ r. ⌜ Refutes (circuitAt (now (file .entry)) shape (now (arrivals .entry))) target
+    requires { ⌜ Given (now file) shape (now arrivals) × Sloped shape (slopesBy form (now falls)) ⌝ }
+    ensures { λ r. ⌜ Refutes
+        (circuitWith (now (file .entry)) shape (now (arrivals .entry)) (slopesBy form (now (falls .entry)))) target
         (now (refutation .entry))
         (length (now (pairs .entry))) (length (now (formula .entry))) (length (now (propagation .entry)))
         r (now (pairs .exit)) (now (formula .exit)) (now (propagation .exit)) ⌝ }
 {
-    let built = formula::build_from(file, shape, arrivals, target, pairs, formula);
+    let built = formula::build_from(file, shape, arrivals, form, falls, target, pairs, formula);
     match built {
         Built::Refused(refusal) => Checked::Refused(refusal),
         Built::Formula(counts) => {
@@ -74,6 +81,8 @@ fn certify(
     file: &[u8],
     shape: Shape,
     arrivals: &[u32],
+    form: Form,
+    falls: &[u32],
     delay: u32,
     vector: &[u8],
     refutation: &[i32],
@@ -83,15 +92,16 @@ fn certify(
     formula: &mut [i32],
     propagation: &mut [u8],
 ) -> Checked
-    requires { ⌜ Given (now file) shape (now arrivals) ⌝ }
-    ensures { λ r. ⌜ Certified (circuitAt (now (file .entry)) shape (now (arrivals .entry))) delay (now (vector .entry))
-        (now (refutation .entry))
+    requires { ⌜ Given (now file) shape (now arrivals) × Sloped shape (slopesBy form (now falls)) ⌝ }
+    ensures { λ r. ⌜ Certified
+        (circuitWith (now (file .entry)) shape (now (arrivals .entry)) (slopesBy form (now (falls .entry)))) delay
+        (now (vector .entry)) (now (refutation .entry))
         (roomsOf (now (values .entry)) (now (times .entry)) (now (pairs .entry)) (now (formula .entry))
         (now (propagation .entry)))
         r (now (values .exit)) (now (times .exit)) (now (pairs .exit)) (now (formula .exit))
         (now (propagation .exit)) ⌝ }
 {
-    let settled = settle::evaluate_accepted(file, shape, arrivals, vector, values, times);
+    let settled = settle::evaluate_given(file, shape, arrivals, form, falls, vector, values, times);
     match settled {
         Settled::Refused(refusal) => Checked::Refused(refusal),
         Settled::At(time) => {
@@ -100,6 +110,8 @@ fn certify(
                     file,
                     shape,
                     arrivals,
+                    form,
+                    falls,
                     delay + 1,
                     refutation,
                     pairs,
@@ -109,6 +121,53 @@ fn certify(
             }
             Checked::Refused(Refusal::Witness(time))
         }
+    }
+}
+
+// The judgement of a file that is accepted with this shape and these arrivals, in either form: what is refused leaves
+// zeros. The single form reads no `falls`.
+fn conclude(
+    file: &[u8],
+    shape: Shape,
+    arrivals: &[u32],
+    form: Form,
+    falls: &[u32],
+    delay: u32,
+    vector: &[u8],
+    refutation: &[i32],
+    values: &mut [u8],
+    times: &mut [u32],
+    pairs: &mut [u32],
+    formula: &mut [i32],
+    propagation: &mut [u8],
+) -> Checked
+    requires { ⌜ Given (now file) shape (now arrivals) × Sloped shape (slopesBy form (now falls)) ⌝ }
+    ensures { λ r. ⌜ Concludes
+        (circuitWith (now (file .entry)) shape (now (arrivals .entry)) (slopesBy form (now (falls .entry)))) delay
+        (now (vector .entry)) (now (refutation .entry))
+        (roomsOf (now (values .entry)) (now (times .entry)) (now (pairs .entry)) (now (formula .entry))
+        (now (propagation .entry)))
+        (leaving r (now (values .exit)) (now (times .exit)) (now (pairs .exit)) (now (formula .exit))
+        (now (propagation .exit))) ⌝ }
+{
+    let checked = certify(
+        file,
+        shape,
+        arrivals,
+        form,
+        falls,
+        delay,
+        vector,
+        refutation,
+        values,
+        times,
+        pairs,
+        formula,
+        propagation,
+    );
+    match checked {
+        Checked::Refused(refusal) => refuse(refusal, values, times, pairs, formula, propagation),
+        Checked::Passes => Checked::Passes,
     }
 }
 
@@ -127,43 +186,120 @@ pub fn judge(
     formula: &mut [i32],
     propagation: &mut [u8],
 ) -> Checked
-    ensures { λ r. ⌜ Judges (now (file .entry)) (now (arrivals .entry)) delay (now (vector .entry))
+    ensures { λ r. ⌜ Judges (now (file .entry)) (now (arrivals .entry)) alike delay (now (vector .entry))
         (now (refutation .entry))
         (roomsOf (now (values .entry)) (now (times .entry)) (now (pairs .entry)) (now (formula .entry))
         (now (propagation .entry)))
         (leaving r (now (values .exit)) (now (times .exit)) (now (pairs .exit)) (now (formula .exit))
         (now (propagation .exit))) ⌝ }
     ensures { λ r. ⌜ (r ≡ Passes →
-        Largest (circuitOf (now (file .entry)) (now (arrivals .entry))) delay) ⌝ }
+        Largest (circuitOf (now (file .entry)) (now (arrivals .entry)) alike) delay) ⌝ }
 {
     let opened = netlist::arrived(netlist::open(file), arrivals);
     match opened {
         Opened::Refused(refusal) => refuse(refusal, values, times, pairs, formula, propagation),
-        Opened::Accepted(shape) => {
-            let checked = certify(
-                file,
-                shape,
-                arrivals,
-                delay,
-                vector,
-                refutation,
-                values,
-                times,
-                pairs,
-                formula,
-                propagation,
-            );
-            match checked {
-                Checked::Refused(refusal) => refuse(
-                    refusal,
-                    values,
-                    times,
-                    pairs,
-                    formula,
-                    propagation,
-                ),
-                Checked::Passes => Checked::Passes,
-            }
-        }
+        Opened::Accepted(shape) => conclude(
+            file,
+            shape,
+            arrivals,
+            Form::Single,
+            arrivals,
+            delay,
+            vector,
+            refutation,
+            values,
+            times,
+            pairs,
+            formula,
+            propagation,
+        ),
+    }
+}
+
+// The rise-fall judgement of a file that is accepted with this shape and these arrivals: 19, then the rest.
+fn judge_falling(
+    file: &[u8],
+    shape: Shape,
+    arrivals: &[u32],
+    falls: &[u32],
+    delay: u32,
+    vector: &[u8],
+    refutation: &[i32],
+    values: &mut [u8],
+    times: &mut [u32],
+    pairs: &mut [u32],
+    formula: &mut [i32],
+    propagation: &mut [u8],
+) -> Checked
+    requires { ⌜ openCircuitOf (now file) (now arrivals) ≡ Accepted shape ⌝ }
+    ensures { λ r. ⌜ Judges (now (file .entry)) (now (arrivals .entry)) (apart (now (falls .entry))) delay
+        (now (vector .entry)) (now (refutation .entry))
+        (roomsOf (now (values .entry)) (now (times .entry)) (now (pairs .entry)) (now (formula .entry))
+        (now (propagation .entry)))
+        (leaving r (now (values .exit)) (now (times .exit)) (now (pairs .exit)) (now (formula .exit))
+        (now (propagation .exit))) ⌝ }
+{
+    let sloped = netlist::check_falls(falls, shape.pins);
+    match sloped {
+        Checked::Refused(refusal) => refuse(refusal, values, times, pairs, formula, propagation),
+        Checked::Passes => conclude(
+            file,
+            shape,
+            arrivals,
+            Form::RiseFall,
+            falls,
+            delay,
+            vector,
+            refutation,
+            values,
+            times,
+            pairs,
+            formula,
+            propagation,
+        ),
+    }
+}
+
+// The judgement of a certificate for a circuit whose gates that end at 0 have delays of their own, one for each pin in
+// `falls`. Accepted means that the delay is the largest settling time of the circuit with these delays.
+pub fn judge_rise_fall(
+    file: &[u8],
+    arrivals: &[u32],
+    falls: &[u32],
+    delay: u32,
+    vector: &[u8],
+    refutation: &[i32],
+    values: &mut [u8],
+    times: &mut [u32],
+    pairs: &mut [u32],
+    formula: &mut [i32],
+    propagation: &mut [u8],
+) -> Checked
+    ensures { λ r. ⌜ Judges (now (file .entry)) (now (arrivals .entry)) (apart (now (falls .entry))) delay
+        (now (vector .entry)) (now (refutation .entry))
+        (roomsOf (now (values .entry)) (now (times .entry)) (now (pairs .entry)) (now (formula .entry))
+        (now (propagation .entry)))
+        (leaving r (now (values .exit)) (now (times .exit)) (now (pairs .exit)) (now (formula .exit))
+        (now (propagation .exit))) ⌝ }
+    ensures { λ r. ⌜ (r ≡ Passes →
+        Largest (circuitOf (now (file .entry)) (now (arrivals .entry)) (apart (now (falls .entry)))) delay) ⌝ }
+{
+    let opened = netlist::arrived(netlist::open(file), arrivals);
+    match opened {
+        Opened::Refused(refusal) => refuse(refusal, values, times, pairs, formula, propagation),
+        Opened::Accepted(shape) => judge_falling(
+            file,
+            shape,
+            arrivals,
+            falls,
+            delay,
+            vector,
+            refutation,
+            values,
+            times,
+            pairs,
+            formula,
+            propagation,
+        ),
     }
 }

@@ -14,7 +14,7 @@ use Rattle.refusal.specs.declared.Checked.the-variants.{Passes, Refused as Fail
 use Rattle.refusal.specs.Rows.{checked, unlessRefused, roomRow}
 use Rattle.refusal.proofs.Rows.{passed-by}
 use Rattle.netlist.specs.Netlist.{Circuit}
-use Rattle.pairs.specs.Pairs.{pairsFor, tableHolds}
+use Rattle.pairs.specs.Pairs.{pairsFor, pairNumbers, tableHolds}
 use Rattle.formula.specs.declared.Built.{Built}
 use Rattle.formula.specs.declared.Built.the-variants.{Formula, Refused}
 use Rattle.formula.specs.declared.Counts.{Counts}
@@ -62,11 +62,11 @@ module _ (circuit : Circuit) (target pairsRoom formulaRoom : ℕ) where
         (λ (c : Checked).
         unlessRefused c (refused pairsRoom formulaRoom) (built circuit target pairsRoom formulaRoom)) e
 
-    pub pairs-fit : length (pairsFor circuit target) ≤ tableHolds pairsRoom
+    pub pairs-fit : length (pairsFor circuit target) ≤ tableHolds (pairNumbers (circuit .slopes)) pairsRoom
     unfolding buildingRows
     pairs-fit =
-        ltb-false (tableHolds pairsRoom) (length (pairsFor circuit target))
-        (passed-by (ltb (tableHolds pairsRoom) (length (pairsFor circuit target))) Pairs
+        ltb-false (tableHolds (pairNumbers (circuit .slopes)) pairsRoom) (length (pairsFor circuit target))
+        (passed-by (ltb (tableHolds (pairNumbers (circuit .slopes)) pairsRoom) (length (pairsFor circuit target))) Pairs
         (roomRow (length (numbersFor circuit target)) formulaRoom ∷ []) e .0)
 
     pub numbers-fit : length (numbersFor circuit target) ≤ formulaRoom
@@ -74,5 +74,5 @@ module _ (circuit : Circuit) (target pairsRoom formulaRoom : ℕ) where
     numbers-fit =
         ltb-false formulaRoom (length (numbersFor circuit target))
         (passed-by (ltb formulaRoom (length (numbersFor circuit target))) (Room (length (numbersFor circuit target))) []
-        (passed-by (ltb (tableHolds pairsRoom) (length (pairsFor circuit target))) Pairs
+        (passed-by (ltb (tableHolds (pairNumbers (circuit .slopes)) pairsRoom) (length (pairsFor circuit target))) Pairs
         (roomRow (length (numbersFor circuit target)) formulaRoom ∷ []) e .1) .0)

@@ -6,12 +6,12 @@ use mathlib.Core.Bool.{cond}
 use Prim.Native.Nat.{ℕ, _<_}
 use borrow.Author.Tests.{lt-ltb}
 use lib.Dec.{leb}
-use Rattle.netlist.specs.Netlist.{Netlist, atZero}
+use Rattle.netlist.specs.Netlist.{Netlist, atZero, alike}
 use Rattle.settle.specs.Settling.{topOf}
 use Rattle.settle.proofs.Nodes.{zero-top}
 use Rattle.formula.specs.Formula.{Part, sure, never, late}
 
-pub zero-late : {X : Type 0} (net : Netlist) (node : ℕ → X) (pair : ℕ → ℕ → X) (n t : ℕ) → n < net .inputs →
-    late (net .inputs) (topOf (atZero net)) node pair n t ≡ cond (leb t 0) sure never
+pub zero-late : {X : Type 0} (net : Netlist) (node : ℕ → X) (pair : ℕ → ℕ → X) (n rail t : ℕ) → n < net .inputs →
+    late alike (net .inputs) (topOf (atZero net)) node pair n rail t ≡ cond (leb t 0) sure never
 unfolding late
-zero-late net node pair n t h = rw (lt-ltb n (net .inputs) h, zero-top net n h) refl
+zero-late net node pair n rail t h = rw (lt-ltb n (net .inputs) h, zero-top net n h) refl

@@ -53,6 +53,10 @@ module _ {most : ℕ} {xs : List Token} {before now : List ℤ} {from at : Emitt
       subst (λ (t : List Token). Emits more t before from now at) e
       (record { is = a .is; numbers = a .numbers; clauses = a .clauses; few = omega (arith, a .few); fewer = a .fewer })
 
+  -- the same tokens by another name
+  pub emits-by : {ys : List Token} → xs ≡ ys → Emits most xs before from now at → Emits most ys before from now at
+  emits-by e a = emits-as most a e (omega arith)
+
   -- so many numbers more fit after it
   pub fits-then : (more : ℕ) → Fits (most + more) from → Emits most xs before from now at → Fits more at
   fits-then more f a = record { place = omega (arith, f .place, a .few); fewer = a .fewer }

@@ -38,7 +38,7 @@ tokens-concatMap f (x ∷ xs) =
 
 -- what one pin adds where no time is asked for
 abbrev pub pinRun : Share → Bool → Bool → ℕ → Pin → List Token
-pinRun share c k own p = shareRun share c k own (p .driver) 0
+pinRun share c k own p = shareRun share c k own (record { node = p .driver; late = 0; more = 0 })
 
 module _ (c k : Bool) (node : ℕ) where
   forced-tokens : (ps : List Pin) →

@@ -1,22 +1,39 @@
--- Lateness (rule F2), case by case, and its code. Assumes nothing.
+-- Lateness (rule F2), case by case, and its codes; a clause of parts, and that of a controlling cube. Assumes nothing.
 use mathlib.Core.Path.{_≡_, refl, sym, ap, ap₂, _∙_}
 use mathlib.Core.Bool.{Bool, true, false, not, _||_, cond}
-use mathlib.Core.List.{List, [], _∷_, _++_, map}
-use Prim.Native.Nat.{ℕ, zero, suc, _+_, _*_, _/_, _≤_, _<_}
+use mathlib.Core.List.{List, [], _∷_, _++_, map, append-nil}
+use Prim.Native.Nat.{ℕ, zero, suc, _+_, _-_, _*_, _/_, _≤_, _<_}
 use native.Mathlib.Omega.{arith}
 use native.Mathlib.Numerals.{add-one}
 use lib.Dec.{leb, ltb, eqb}
 use lib.ListN.{length, getD, take}
 use borrow.Author.Tests.{lt-ltb, le-ltb, le-leb, lt-leb, ne-eqb}
 use Rattle.basics.specs.Lists.{any, concatMap}
+use Rattle.basics.proofs.Lists.{any-append, any-concatMap, concatMap-append}
+use Rattle.netlist.specs.declared.Form.{Form}
+use Rattle.netlist.specs.declared.Form.the-variants.{Single, RiseFall}
+use Rattle.netlist.specs.Netlist.{Pin, slopesBy}
+use Rattle.settle.specs.Settling.{Cube}
 use Rattle.pairs.specs.Pairs.{pairPlace}
 use Rattle.pairs.specs.Table.{pairsIn}
 use Rattle.pairs.specs.Promise.{Lists, Findable}
 use Rattle.pairs.proofs.Flat.{pairs-flat}
 use Rattle.pairs.proofs.Closed.{place-below}
-use Rattle.formula.specs.Formula.{Part, sure, never, literal, isSure, literals, clauseOf, late}
+use Rattle.formula.specs.Formula.{
+  Part,
+  sure,
+  never,
+  literal,
+  isSure,
+  literals,
+  clauseOf,
+  late,
+  cubeParts,
+  nodeVariable,
+}
+use Rattle.formula.specs.declared.Asked.{Asked}
 use Rattle.formula.specs.declared.Share.the-variants.{Control}
-use Rattle.formula.specs.Emission.{Token, ended, wants, tokensOf, codeRun, nodeIs, shareRun, literalRun, cubeRun}
+use Rattle.formula.specs.Emission.{Token, ended, wants, tokensOf, codeRun, nodeIs, literalRun, shareRun, cubeRun}
 use Rattle.formula.specs.Late.{
   Lent,
   partCode,
@@ -24,6 +41,9 @@ use Rattle.formula.specs.Late.{
   topIn,
   variableIn,
   lateIn,
+  askedBy,
+  nodeLateIn,
+  controlIn,
   Slices,
   PlaceFound,
   LateCode,
@@ -50,22 +70,22 @@ pub pairs-listed : (table : List ℕ) (pairs : List (ℕ × ℕ)) → Lists tabl
 pairs-listed table pairs l = sym (even-part table) ∙ ap pairsIn (l .is) ∙ pairs-flat pairs
 
 -- what the search finds
-pub place-found : {table : List ℕ} {node t r : ℕ} → Findable table (length table / 2) node t →
-    ((pairs : List (ℕ × ℕ)) → Lists table (length table / 2) pairs → r ≡ pairPlace node t pairs) → PlaceFound table
-    node t r
-place-found {table} {node} {t} f h =
+pub place-found : {table : List ℕ} {rail t r : ℕ} → Findable table (length table / 2) rail t →
+    ((pairs : List (ℕ × ℕ)) → Lists table (length table / 2) pairs → r ≡ pairPlace rail t pairs) → PlaceFound table
+    rail t r
+place-found {table} {rail} {t} f h =
     let e = h (f .pairs) (f .lists) in
-    let b = place-below node t (f .pairs) (f .here) in
+    let b = place-below rail t (f .pairs) (f .here) in
     let l = f .lists .all in
     record {
-      is = e ∙ ap (pairPlace node t) (sym (pairs-listed table (f .pairs) (f .lists)));
+      is = e ∙ ap (pairPlace rail t) (sym (pairs-listed table (f .pairs) (f .lists)));
       below = omega arith;
     }
 
 -- ---- the cases
 
-module _ {l : Lent} {node t : ℕ} where
-  pub late-input : node < l .shape .inputs → t ≤ topIn (l .tops) node → LateCode l node t 1
+module _ {l : Lent} {node rail t : ℕ} where
+  pub late-input : node < l .shape .inputs → t ≤ topIn (l .tops) node → LateCode l node rail t 1
   unfolding late
   late-input h k =
       record {
@@ -73,7 +93,7 @@ module _ {l : Lent} {node t : ℕ} where
         small = omega arith;
       }
 
-  pub late-input-not : node < l .shape .inputs → topIn (l .tops) node < t → LateCode l node t 0
+  pub late-input-not : node < l .shape .inputs → topIn (l .tops) node < t → LateCode l node rail t 0
   unfolding late
   late-input-not h k =
       record {
@@ -81,13 +101,13 @@ module _ {l : Lent} {node t : ℕ} where
         small = omega arith;
       }
 
-  pub late-zero : l .shape .inputs ≤ node → t ≡ 0 → LateCode l node t 1
+  pub late-zero : l .shape .inputs ≤ node → t ≡ 0 → LateCode l node rail t 1
   unfolding late
   late-zero h e =
       let k : t ≤ 0 = omega arith in
       record { is = rw (le-ltb node (l .shape .inputs) h, le-leb t 0 k); small = omega arith }
 
-  pub late-beyond : l .shape .inputs ≤ node → 0 < t → topIn (l .tops) node < t → LateCode l node t 0
+  pub late-beyond : l .shape .inputs ≤ node → 0 < t → topIn (l .tops) node < t → LateCode l node rail t 0
   unfolding late
   late-beyond h p k =
       record {
@@ -96,7 +116,7 @@ module _ {l : Lent} {node t : ℕ} where
       }
 
   pub late-pair : {place : ℕ} → Slices l → l .shape .inputs ≤ node → 0 < t → t ≤ topIn (l .tops) node →
-      PlaceFound (l .table) node t place → LateCode l node t ((l .shape .inputs + l .shape .gates + place + 1) * 2)
+      PlaceFound (l .table) rail t place → LateCode l node rail t ((l .shape .inputs + l .shape .gates + place + 1) * 2)
   unfolding late variableIn
   late-pair {place} s h p k f =
       let nodes = s .nodes-few in
@@ -112,82 +132,6 @@ module _ {l : Lent} {node t : ℕ} where
 -- a variable from its code
 pub halved : (x : ℕ) → x * 2 / 2 ≡ x
 halved x = omega arith
-
-module _ (l : Lent) (node t : ℕ) where
-  -- what holds of true and of false outright and of each literal of a variable above 0 holds of lateness at t
-  late-any : (P : Part ℕ → Type 0) → P sure → P never → ((n : ℕ) → P (literal true (suc n))) → P (lateIn l node t)
-  unfolding late variableIn
-  late-any P a b c = go (ltb node (l .shape .inputs)) (leb t (getD (l .tops) node 0)) (leb t 0) _
-    where
-      go : (x y z : Bool) (n : ℕ) → P (cond x (cond y sure never) (cond z sure (cond y (literal true (suc n)) never)))
-      go true true z n = a
-      go true false z n = b
-      go false y true n = a
-      go false true false n = c n
-      go false false false n = b
-
-  -- its code is 1 exactly where it is true outright
-  pub late-sure : eqb (partCode (lateIn l node t)) 1 ≡ isSure (lateIn l node t)
-  late-sure =
-      late-any (λ p. eqb (partCode p) 1 ≡ isSure p) refl refl
-      (λ n. ne-eqb (suc n * 2) 1 (λ e. absurd (omega arith)))
-
-  -- its run is that of its code
-  pub late-run : codeRun true (partCode (lateIn l node t)) ≡ partRun (lateIn l node t)
-  late-run =
-      late-any (λ p. codeRun true (partCode p) ≡ partRun p) refl refl
-      (λ n. rw (le-ltb (suc n * 2) 2 (omega arith), halved (suc n)))
-
-  -- one pin's further clause of a simple gate, by the codes
-  pub late-control : (c k : Bool) (own driver : ℕ) →
-      shareRun Control c k own driver (partCode (lateIn l node t))
-      ≡ tokensOf (clauseOf (literal false own ∷ lateIn l node t ∷ literal (not c) (suc driver) ∷ []))
-  unfolding clauseOf tokensOf
-  late-control c k own driver =
-      late-any
-      (λ p.
-      shareRun Control c k own driver (partCode p)
-      ≡ tokensOf (clauseOf (literal false own ∷ p ∷ literal (not c) (driver + 1) ∷ []))) refl refl
-      (λ n. rw (ne-eqb (suc n * 2) 1 (λ e. absurd (omega arith)), le-ltb (suc n * 2) 2 (omega arith), halved (suc n)))
-      ∙ ap (λ (n : ℕ). tokensOf (clauseOf (literal false own ∷ lateIn l node t ∷ literal (not c) n ∷ [])))
-      (add-one driver)
-
--- the clause of a controlling cube of two literals, x and y being the variables of their drivers
-abbrev ofTwo : ℕ → Bool → Bool → Part ℕ → ℕ → Part ℕ → ℕ → List Token
-ofTwo own a b p x q y =
-    tokensOf (clauseOf (literal false own ∷ p ∷ literal (not a) x ∷ q ∷ literal (not b) y ∷ []))
-
--- part by part
-two-parts : (own : ℕ) (a b : Bool) (p : Part ℕ) (x : ℕ) (q : Part ℕ) (y : ℕ) →
-    cond (isSure p || isSure q) []
-    ((((wants (false, own) ∷ []) ++ (partRun p ++ (wants (not a, x) ∷ []))) ++ (partRun q ++ (wants (not b, y) ∷ [])))
-    ++ (ended ∷ []))
-    ≡ ofTwo own a b p x q y
-unfolding clauseOf tokensOf
-two-parts own a b sure x q y = refl
-two-parts own a b never x sure y = refl
-two-parts own a b never x never y = refl
-two-parts own a b never x (literal d w) y = refl
-two-parts own a b (literal c v) x sure y = refl
-two-parts own a b (literal c v) x never y = refl
-two-parts own a b (literal c v) x (literal d w) y = refl
-
--- by the codes
-pub cube-control : (l : Lent) (x s y t : ℕ) (a b : Bool) (own : ℕ) →
-    cubeRun own x (partCode (lateIn l x s)) a y (partCode (lateIn l y t)) b
-    ≡ ofTwo own a b (lateIn l x s) (suc x) (lateIn l y t) (suc y)
-cube-control l x s y t a b own =
-    let p = lateIn l x s in
-    let q = lateIn l y t in
-    ap₂ (λ (u v : Bool). cond (u || v) []
-    ((((wants (false, own) ∷ []) ++ literalRun x (partCode p) a) ++ literalRun y (partCode q) b) ++ (ended ∷ [])))
-    (late-sure l x s) (late-sure l y t)
-    ∙ ap₂ (λ (u v : List Token). cond (isSure p || isSure q) []
-    ((((wants (false, own) ∷ []) ++ (u ++ (wants (nodeIs x (not a)) ∷ [])))
-    ++ (v ++ (wants (nodeIs y (not b)) ∷ []))) ++ (ended ∷ [])))
-    (late-run l x s) (late-run l y t)
-    ∙ two-parts own a b p (x + 1) q (y + 1)
-    ∙ ap₂ (λ (n m : ℕ). ofTwo own a b p n q m) (add-one x) (add-one y)
 
 -- ---- a clause of parts
 
@@ -207,3 +151,140 @@ clause-run parts = go (any isSure parts)
         cond b [] (concatMap partRun parts ++ (ended ∷ [])) ≡ tokensOf (cond b [] (literals parts ∷ []))
     go true = refl
     go false = ap (λ (l : List Token). l ++ (ended ∷ [])) (literal-runs parts)
+
+-- ---- the codes of a node
+
+or-none : (b : Bool) → (b || false) ≡ b
+or-none true = refl
+or-none false = refl
+
+module _ (l : Lent) (node t : ℕ) where
+  -- what holds of true and of false outright and of literals of variables above 0 holds of lateness at t by a rail, and
+  -- by two: a node that is late outright is so by each of its rails
+  late-any : (rail : ℕ) (P : Part ℕ → Type 0) → P sure → P never → ((n : ℕ) → P (literal true (suc n))) →
+      P (lateIn l node rail t)
+  unfolding late variableIn
+  late-any rail P a b c = go (ltb node (l .shape .inputs)) (leb t (getD (l .tops) node 0)) (leb t 0) _
+    where
+      go : (x y z : Bool) (n : ℕ) → P (cond x (cond y sure never) (cond z sure (cond y (literal true (suc n)) never)))
+      go true true z n = a
+      go true false z n = b
+      go false y true n = a
+      go false true false n = c n
+      go false false false n = b
+
+  late-two : (rail other : ℕ) (P : Part ℕ → Part ℕ → Type 0) → P sure sure → P never never →
+      ((n m : ℕ) → P (literal true (suc n)) (literal true (suc m))) → P (lateIn l node rail t) (lateIn l node other t)
+  unfolding late variableIn
+  late-two rail other P a b c = go (ltb node (l .shape .inputs)) (leb t (getD (l .tops) node 0)) (leb t 0) _ _
+    where
+      go : (x y z : Bool) (n m : ℕ) →
+          P (cond x (cond y sure never) (cond z sure (cond y (literal true (suc n)) never)))
+          (cond x (cond y sure never) (cond z sure (cond y (literal true (suc m)) never)))
+      go true true z n m = a
+      go true false z n m = b
+      go false y true n m = a
+      go false true false n m = c n m
+      go false false false n m = b
+
+  -- the first code is 1 exactly where the node is late outright
+  pub late-sure : (form : Form) (falls : List ℕ) →
+      eqb (askedBy form l node t .late) 1 ≡ any isSure (nodeLateIn l (slopesBy form falls) node t)
+  unfolding late
+  late-sure Single falls =
+      late-any node (λ p. eqb (partCode p) 1 ≡ (isSure p || false)) refl refl
+      (λ n. ne-eqb (suc n * 2) 1 (λ e. absurd (omega arith)))
+  late-sure RiseFall falls =
+      late-two (node * 2) (node * 2 + 1) (λ p q. eqb (partCode p) 1 ≡ (isSure p || (isSure q || false))) refl refl
+      (λ n m. ne-eqb (suc n * 2) 1 (λ e. absurd (omega arith)))
+
+  -- the run of the codes is that of the parts
+  pub late-run : (form : Form) (falls : List ℕ) →
+      codeRun true (askedBy form l node t .late) ++ codeRun true (askedBy form l node t .more)
+      ≡ concatMap partRun (nodeLateIn l (slopesBy form falls) node t)
+  unfolding late
+  late-run Single falls =
+      late-any node (λ p. codeRun true (partCode p) ++ codeRun true 0 ≡ partRun p ++ []) refl refl
+      (λ n. rw (le-ltb (suc n * 2) 2 (omega arith), halved (suc n)))
+  late-run RiseFall falls =
+      late-two (node * 2) (node * 2 + 1)
+      (λ p q. codeRun true (partCode p) ++ codeRun true (partCode q) ≡ partRun p ++ (partRun q ++ [])) refl refl
+      (λ n m. two-codes n m)
+    where
+      two-codes : (n m : ℕ) →
+          codeRun true (suc n * 2) ++ codeRun true (suc m * 2) ≡ wants (true, suc n) ∷ wants (true, suc m) ∷ []
+      two-codes n m =
+          rw (le-ltb (suc n * 2) 2 (omega arith), le-ltb (suc m * 2) 2 (omega arith), halved (suc n), halved (suc m))
+
+  pub asked-node : (form : Form) → askedBy form l node t .node ≡ node
+  asked-node Single = refl
+  asked-node RiseFall = refl
+
+-- ---- a controlling cube
+
+module _ (l : Lent) (form : Form) (falls : List ℕ) (t : ℕ) where
+  -- what is known of the driver of a cube's literal
+  abbrev ofLiteral : Pin × Bool → Asked
+  ofLiteral x = askedBy form l (x .0 .driver) (t - x .0 .delay)
+
+  abbrev partsOf : Pin × Bool → List (Part ℕ)
+  partsOf = cubeParts (slopesBy form falls) (l .shape .inputs) (topIn (l .tops)) nodeVariable (variableIn l) t
+
+  literal-sure : (x : Pin × Bool) → any isSure (partsOf x) ≡ eqb (ofLiteral x .late) 1
+  literal-sure x =
+      let parts = nodeLateIn l (slopesBy form falls) (x .0 .driver) (t - x .0 .delay) in
+      any-append isSure parts (literal (not (x .1)) (suc (x .0 .driver)) ∷ [])
+      ∙ or-none (any isSure parts)
+      ∙ sym (late-sure l (x .0 .driver) (t - x .0 .delay) form falls)
+
+  literal-run : (x : Pin × Bool) → concatMap partRun (partsOf x) ≡ literalRun (ofLiteral x) (x .1)
+  literal-run x =
+      let parts = nodeLateIn l (slopesBy form falls) (x .0 .driver) (t - x .0 .delay) in
+      concatMap-append partRun parts (literal (not (x .1)) (suc (x .0 .driver)) ∷ [])
+      ∙ ap₂ (λ (a : List Token) (n : ℕ). a ++ (wants (not (x .1), n) ∷ []))
+      (sym (late-run l (x .0 .driver) (t - x .0 .delay) form falls))
+      (sym (add-one (x .0 .driver)) ∙ ap (λ (n : ℕ). n + 1) (sym (asked-node l (x .0 .driver) (t - x .0 .delay) form)))
+
+  cube-sure : (cube : Cube Pin) → any isSure (concatMap partsOf cube) ≡ any (λ x. eqb (ofLiteral x .late) 1) cube
+  cube-sure [] = refl
+  cube-sure (x ∷ cube) =
+      any-append isSure (partsOf x) (concatMap partsOf cube)
+      ∙ ap₂ (λ (a b : Bool). a || b) (literal-sure x) (cube-sure cube)
+
+  cube-run : (cube : Cube Pin) →
+      concatMap partRun (concatMap partsOf cube) ≡ concatMap (λ x. literalRun (ofLiteral x) (x .1)) cube
+  cube-run [] = refl
+  cube-run (x ∷ cube) =
+      concatMap-append partRun (partsOf x) (concatMap partsOf cube)
+      ∙ ap₂ (λ (a b : List Token). a ++ b) (literal-run x) (cube-run cube)
+
+  -- its clause, by the codes
+  cube-tokens : (own : ℕ) (cube : Cube Pin) →
+      cond (any (λ x. eqb (ofLiteral x .late) 1) cube) []
+      ((wants (false, own) ∷ concatMap (λ x. literalRun (ofLiteral x) (x .1)) cube) ++ (ended ∷ []))
+      ≡ controlIn l (slopesBy form falls) own t cube
+  cube-tokens own cube =
+      ap₂ (λ (b : Bool) (r : List Token). cond b [] ((wants (false, own) ∷ r) ++ (ended ∷ []))) (sym (cube-sure cube))
+      (sym (cube-run cube))
+      ∙ clause-run (literal false own ∷ concatMap partsOf cube)
+
+  -- of one literal, as for a simple gate
+  pub one-literal : (c k : Bool) (own : ℕ) (p : Pin) →
+      shareRun Control c k own (ofLiteral (p, c)) ≡ controlIn l (slopesBy form falls) own t ((p, c) ∷ [])
+  one-literal c k own p =
+      let driver = ofLiteral (p, c) in
+      ap₂ (λ (b : Bool) (r : List Token). cond b [] ((wants (false, own) ∷ r) ++ (ended ∷ [])))
+      (sym (or-none (eqb (driver .late) 1))) (sym (append-nil (literalRun driver c)))
+      ∙ cube-tokens own ((p, c) ∷ [])
+
+  -- of two
+  pub two-literals : (own : ℕ) (p : Pin) (a : Bool) (q : Pin) (b : Bool) →
+      cubeRun own (ofLiteral (p, a)) a (ofLiteral (q, b)) b
+      ≡ controlIn l (slopesBy form falls) own t ((p, a) ∷ (q, b) ∷ [])
+  two-literals own p a q b =
+      let x = ofLiteral (p, a) in
+      let y = ofLiteral (q, b) in
+      ap₂ (λ (e : Bool) (r : List Token). cond (eqb (x .late) 1 || e) []
+      ((wants (false, own) ∷ (literalRun x a ++ r)) ++ (ended ∷ [])))
+      (sym (or-none (eqb (y .late) 1))) (sym (append-nil (literalRun y b)))
+      ∙ cube-tokens own ((p, a) ∷ (q, b) ∷ [])

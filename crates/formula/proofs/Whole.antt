@@ -1,6 +1,7 @@
 -- The list that the code puts is the definition's formula: the pairs come in the order of the table, each with its
--- gate's kind and pins. Assumes nothing.
-use mathlib.Core.Path.{_≡_, refl, sym, ap, ap₂, _∙_}
+-- rail's kind and pins. Assumes nothing.
+use mathlib.Core.Path.{_≡_, refl, sym, ap, ap₂, _∙_, subst}
+use mathlib.Core.Bool.{Bool, true, false}
 use mathlib.Core.List.{
   List,
   [],
@@ -8,46 +9,48 @@ use mathlib.Core.List.{
   _++_,
   map,
   append-assoc,
+  append-nil,
   List·Memᴰ,
   List·Memᴰ·head,
   List·Memᴰ·tail,
 }
-use Prim.Native.Nat.{ℕ, zero, suc, _+_, _-_}
+use Prim.Native.Nat.{ℕ, zero, suc, _+_, _-_, _*_, _/_, _%_}
 use native.Mathlib.Omega.{arith}
+use lib.Dec.{eqb}
 use lib.ListN.{length, getD, length-append}
+use borrow.Author.Tests.{eq-eqb, ne-eqb}
 use Rattle.basics.specs.Lists.{concatMap, upFrom, numbered}
 use Rattle.basics.proofs.Lists.{concatMap-append}
-use Rattle.netlist.specs.declared.Kind.{Kind}
+use Rattle.netlist.specs.declared.Form.{Form}
+use Rattle.netlist.specs.declared.Form.the-variants.{Single, RiseFall}
 use Rattle.netlist.specs.declared.Shape.{Shape}
-use Rattle.netlist.specs.Netlist.{Cell, Pin, nodes}
-use Rattle.netlist.specs.File.{cellAt, netlistAt, circuitAt}
+use Rattle.netlist.specs.Netlist.{Cell, Pin, nodes, Slopes, alike, apart, slopesBy, pinsFor, Circuit}
+use Rattle.netlist.specs.File.{cellAt, netlistAt, circuitWith}
 use Rattle.netlist.proofs.Entries.{node-count, node-only}
 use Rattle.clauses.specs.Clauses.{Literal}
-use Rattle.settle.specs.Settling.{topOf, Cube, cubes}
-use Rattle.pairs.specs.Pairs.{timesAt, pairList, pairsFor, pairPlace}
+use Rattle.settle.specs.Settling.{topOf}
+use Rattle.pairs.specs.Rails.{Rail, railsAt, railCount, railCells}
+use Rattle.pairs.specs.Pairs.{pairList, timesFor, pairsFor, pairPlace}
 use Rattle.pairs.specs.Table.{pairsIn}
 use Rattle.pairs.specs.Promise.{pairsAt}
 use Rattle.pairs.proofs.Flat.{pairs-flat, pairs-length}
 use Rattle.formula.specs.Formula.{
-  literal,
   clauseOf,
   gateClauses,
-  late,
-  cubeClause,
+  nodeLate,
   pairClauses,
   formula,
   nodeVariable,
   pairVariable,
   formulaFor,
 }
-use Rattle.formula.specs.Emission.{Token, tokensOf, cellRun}
+use Rattle.formula.specs.Emission.{Token, tokensOf, cellRun, railValue}
 use Rattle.formula.specs.Late.{
   Lent,
   pairsCount,
-  topIn,
   variableIn,
-  pinLate,
   clausesIn,
+  railAt,
   gateRun,
   runOf,
   pairRun,
@@ -56,38 +59,40 @@ use Rattle.formula.specs.Late.{
 use Rattle.formula.proofs.Gates.{tokens-append, tokens-concatMap}
 use Rattle.formula.proofs.Table.{tableAt, lentAt}
 
--- ---- one pair
+-- ---- lists of runs
 
--- what is put for a pair are the definition's clauses
-pair-tokens : (l : Lent) (f : ℕ) (kind : Kind) (pins : List Pin) (t : ℕ) →
-    clausesIn l (variableIn l f t) kind pins t
-    ≡ tokensOf (pairClauses (l .shape .inputs) (topIn (l .tops)) nodeVariable (variableIn l) f kind pins t)
-unfolding pairClauses
-pair-tokens l f kind pins t =
-    let first = clauseOf (literal _ (variableIn l f t) ∷ map (pinLate l t) pins) in
-    let ofCube : Cube Pin → List (List Literal) =
-    cubeClause (l .shape .inputs) (topIn (l .tops)) nodeVariable (variableIn l) f t in
-    sym (tokens-append first (concatMap ofCube (cubes kind pins))
-    ∙ ap (λ (x : List Token). tokensOf first ++ x) (tokens-concatMap ofCube (cubes kind pins)))
+each-in : {A B : Type 0} (f g : A → List B) (xs : List A) → ((x : A) → List·Memᴰ x xs → f x ≡ g x) →
+    concatMap f xs ≡ concatMap g xs
+each-in f g [] h = refl
+each-in {B = B} f g (x ∷ xs) h =
+    ap₂ (λ (a b : List B). a ++ b) (h x (List·Memᴰ·head refl)) (each-in f g xs (λ y m. h y (List·Memᴰ·tail m)))
 
--- ---- all pairs
+within-each : {A B C : Type 0} (f : B → List C) (g : A → List B) (xs : List A) →
+    concatMap f (concatMap g xs) ≡ concatMap (λ x. concatMap f (g x)) xs
+within-each f g [] = refl
+within-each {C = C} f g (x ∷ xs) =
+    concatMap-append f (g x) (concatMap g xs) ∙ ap (λ (l : List C). concatMap f (g x) ++ l) (within-each f g xs)
 
--- for each gate and each of its times, or for each pair of the list
-module _ {B : Type 0} (times : ℕ → List ℕ) (F : ℕ × Cell → ℕ → List B) (G : ℕ × ℕ → List B) where
-  one-gate : (x : ℕ × Cell) → ((t : ℕ) → F x t ≡ G (x .0, t)) → (ts : List ℕ) →
-      concatMap (F x) ts ≡ concatMap G (map (λ t. (x .0, t)) ts)
-  one-gate x h [] = refl
-  one-gate x h (t ∷ ts) = ap₂ (λ (a b : List B). a ++ b) (h t) (one-gate x h ts)
+of-each : {A B C : Type 0} (f : B → List C) (g : A → B) (xs : List A) →
+    concatMap f (map g xs) ≡ concatMap (λ x. f (g x)) xs
+of-each f g [] = refl
+of-each {C = C} f g (x ∷ xs) = ap (λ (l : List C). f (g x) ++ l) (of-each f g xs)
 
-  pub each-pair : (xs : List (ℕ × Cell)) → ((x : ℕ × Cell) → List·Memᴰ x xs → (t : ℕ) → F x t ≡ G (x .0, t)) →
-      concatMap (λ x. concatMap (F x) (times (x .0))) xs
-      ≡ concatMap G (concatMap (λ x. map (λ t. (x .0, t)) (times (x .0))) xs)
-  each-pair [] h = refl
-  each-pair (x ∷ xs) h =
-      ap₂ (λ (a b : List B). a ++ b) (one-gate x (h x (List·Memᴰ·head refl)) (times (x .0)))
-      (each-pair xs (λ y m. h y (List·Memᴰ·tail m)))
-      ∙ sym (concatMap-append G (map (λ t. (x .0, t)) (times (x .0)))
-      (concatMap (λ x. map (λ t. (x .0, t)) (times (x .0))) xs))
+-- for each rail by its number, or gate by gate
+by-rails : {B : Type 0} (G : ℕ → List B) (slopes : Slopes) (k : ℕ) (gs : List Cell) →
+    concatMap (λ y. G (y .0)) (numbered (railCount slopes k) (railCells slopes gs))
+    ≡ concatMap (λ x. concatMap (λ r. G (r .number)) (railsAt slopes x)) (numbered k gs)
+by-rails {B} G alike k gs =
+    each-in (λ x. G (x .0)) (λ x. G (x .0) ++ []) (numbered k gs) (λ x m. sym (append-nil (G (x .0))))
+by-rails G (apart falls) k [] = refl
+by-rails {B} G (apart falls) k (g ∷ gs) =
+    let e : suc (k * 2) ≡ k * 2 + 1 = omega arith in
+    let f : suc (suc (k * 2)) ≡ suc k * 2 = omega arith in
+    let rest = concatMap (λ x. concatMap (λ r. G (r .number)) (railsAt (apart falls) x)) (numbered (suc k) gs) in
+    ap₂ (λ (a b : ℕ). G (k * 2) ++ (G a ++ concatMap (λ y. G (y .0)) (numbered b (railCells (apart falls) gs)))) e f
+    ∙ ap (λ (l : List B). G (k * 2) ++ (G (k * 2 + 1) ++ l)) (by-rails G (apart falls) (suc k) gs)
+    ∙ sym (append-assoc (G (k * 2)) (G (k * 2 + 1)) rest)
+    ∙ ap (λ (l : List B). (G (k * 2) ++ l) ++ rest) (sym (append-nil (G (k * 2 + 1))))
 
 -- ---- by number, or by entry
 
@@ -122,61 +127,115 @@ by-gate {A} {B} F f n a (suc k) =
 
 -- ---- the formula of an accepted file
 
-module _ (file : List ℕ) (shape : Shape) (arrivals : List ℕ) (target : ℕ) where
+module _ (file : List ℕ) (shape : Shape) (falls : List ℕ) where
+  -- a gate's rail is the one that has its number
+  rail-back : (form : Form) (i : ℕ) (r : Rail) →
+      List·Memᴰ r (railsAt (slopesBy form falls) (shape .inputs + i, cellAt file shape i)) →
+      railAt file shape form falls (r .number) ≡ r
+  rail-back Single i r (List·Memᴰ·head e) =
+      let d : shape .inputs + i - shape .inputs ≡ i = omega arith in
+      ap (λ (x : Rail). railAt file shape Single falls (x .number)) e
+      ∙ ap (λ (n : ℕ). one (shape .inputs + i) (cellAt file shape n)) d
+      ∙ sym e
+    where
+      one : ℕ → Cell → Rail
+      one n g = record { number = n; node = n; fixes = []; kind = g .kind; pins = g .pins }
+  rail-back RiseFall i r m = go m
+    where
+      made : ℕ → ℕ → Bool → Cell → Rail
+      made number n v g =
+          record {
+            number = number;
+            node = n;
+            fixes = v ∷ [];
+            kind = g .kind;
+            pins = pinsFor (apart falls) v (g .pins);
+          }
+
+      back : (number : ℕ) (v : Bool) → number / 2 ≡ shape .inputs + i → railValue number ≡ v →
+          railAt file shape RiseFall falls number ≡ made number (shape .inputs + i) v (cellAt file shape i)
+      back number v h e =
+          let d : shape .inputs + i - shape .inputs ≡ i = omega arith in
+          ap₂ (λ (n : ℕ) (w : Bool). made number n w (cellAt file shape (n - shape .inputs))) h e
+          ∙ ap (λ (n : ℕ). made number (shape .inputs + i) v (cellAt file shape n)) d
+
+      go : List·Memᴰ r (railsAt (apart falls) (shape .inputs + i, cellAt file shape i)) →
+          railAt file shape RiseFall falls (r .number) ≡ r
+      go (List·Memᴰ·head e) =
+          let n = (shape .inputs + i) * 2 in
+          let h : n / 2 ≡ shape .inputs + i = omega arith in
+          let v : n % 2 ≡ 0 = omega arith in
+          ap (λ (x : Rail). railAt file shape RiseFall falls (x .number)) e
+          ∙ back n false h (ne-eqb (n % 2) 1 (λ z. absurd (omega arith)))
+          ∙ sym e
+      go (List·Memᴰ·tail (List·Memᴰ·head e)) =
+          let n = (shape .inputs + i) * 2 + 1 in
+          let h : n / 2 ≡ shape .inputs + i = omega arith in
+          let v : n % 2 ≡ 1 = omega arith in
+          ap (λ (x : Rail). railAt file shape RiseFall falls (x .number)) e
+          ∙ back n true h (eq-eqb (n % 2) 1 v)
+          ∙ sym e
+
+module _ (file : List ℕ) (shape : Shape) (arrivals : List ℕ) (form : Form) (falls : List ℕ) (target : ℕ) where
+  abbrev circuit : Circuit
+  circuit = circuitWith file shape arrivals (slopesBy form falls)
+
+  abbrev put : Lent
+  put = lentAt file shape arrivals form falls target
+
   -- a pair's variable by the table
-  variables : variableIn (lentAt file shape arrivals target)
-      ≡ pairVariable (circuitAt file shape arrivals) target
+  variables : variableIn put ≡ pairVariable circuit target
   unfolding variableIn pairVariable
   variables =
       let after : ℕ → List (ℕ × ℕ) → ℕ → ℕ → ℕ = λ n l f t. suc (n + pairPlace f t l) in
-      ap₂ after (sym (node-count file shape)) (pairs-flat (pairsAt file shape arrivals target))
+      ap₂ after (sym (node-count file shape)) (pairs-flat (pairsAt file shape arrivals (slopesBy form falls) target))
 
-  -- a gate and a time
-  abbrev ofGate : ℕ × Cell → ℕ → List (List Literal)
-  ofGate x =
-      pairClauses (shape .inputs) (topOf (circuitAt file shape arrivals)) nodeVariable
-      (variableIn (lentAt file shape arrivals target)) (x .0) (x .1 .kind) (x .1 .pins)
+  -- a rail's pair
+  abbrev ofRail : Rail → ℕ → List (List Literal)
+  ofRail = pairClauses (slopesBy form falls) (shape .inputs) (topOf circuit) nodeVariable (variableIn put)
 
-  -- a pair of the table, by its node's gate
-  abbrev ofPair : ℕ × ℕ → List (List Literal)
-  ofPair x = ofGate (x .0, cellAt file shape (x .0 - shape .inputs)) (x .1)
+  -- all pairs of a rail, and of a gate
+  abbrev ofTimes : Rail → List (List Literal)
+  ofTimes r = concatMap (ofRail r) (timesFor circuit target (r .number))
 
-  same-pair : (x : ℕ × Cell) → List·Memᴰ x (nodes (netlistAt file shape)) → (t : ℕ) → ofGate x t ≡ ofPair (x .0, t)
-  same-pair x m t =
+  abbrev ofGate : ℕ × Cell → List (List Literal)
+  ofGate x = concatMap ofTimes (railsAt (slopesBy form falls) x)
+
+  -- what is put for a rail of a gate
+  rail-put : (x : ℕ × Cell) → List·Memᴰ x (nodes (netlistAt file shape)) → (r : Rail) →
+      List·Memᴰ r (railsAt (slopesBy form falls) x) →
+      concatMap (λ t. runOf file put form falls (r .number, t)) (timesFor circuit target (r .number))
+      ≡ tokensOf (ofTimes r)
+  rail-put x m r j =
       let w = node-only file shape x m in
-      let d : shape .inputs + w .0 - shape .inputs ≡ w .0 = omega arith in
-      rw (w .2, d)
+      let e = rail-back file shape falls form (w .0) r
+      (subst (λ (y : ℕ × Cell). List·Memᴰ r (railsAt (slopesBy form falls) y)) (w .2) j) in
+      ap (λ (s : Rail). concatMap (clausesIn put (slopesBy form falls) s) (timesFor circuit target (r .number))) e
+      ∙ sym (tokens-concatMap (ofRail r) (timesFor circuit target (r .number)))
 
-  -- the pairs' clauses, gate by gate
-  abbrev ofPairs : List (List Literal)
-  ofPairs =
-      let net = netlistAt file shape in
-      concatMap (λ x. concatMap (ofGate x)
-      (timesAt (net .inputs) (topOf (circuitAt file shape arrivals)) (net .outputs) target (net .gates) (x .0)))
-      (nodes net)
-
-  pairs-put : concatMap (pairRun file (lentAt file shape arrivals target))
-      (upFrom 0 (pairsCount (lentAt file shape arrivals target)))
-      ≡ tokensOf ofPairs
+  pairs-put : concatMap (pairRun file put form falls) (upFrom 0 (pairsCount put))
+      ≡ tokensOf (concatMap ofGate (nodes (netlistAt file shape)))
   unfolding pairsFor pairList
   pairs-put =
       let net = netlistAt file shape in
-      let times = timesAt (net .inputs) (topOf (circuitAt file shape arrivals)) (net .outputs) target (net .gates) in
-      let pairs = pairsAt file shape arrivals target in
-      by-number (runOf file (lentAt file shape arrivals target)) (0, 0) (pairsIn (tableAt file shape arrivals target))
-      (pairsCount (lentAt file shape arrivals target)) (sym (pairs-length (tableAt file shape arrivals target)))
-      ∙ ap (concatMap (runOf file (lentAt file shape arrivals target))) (pairs-flat pairs)
-      ∙ runs pairs
-      ∙ sym (tokens-concatMap ofPair pairs)
-      ∙ ap tokensOf (sym (each-pair times ofGate ofPair (nodes net) same-pair))
-    where
-      runs : (ps : List (ℕ × ℕ)) →
-          concatMap (runOf file (lentAt file shape arrivals target)) ps ≡ concatMap (λ x. tokensOf (ofPair x)) ps
-      runs [] = refl
-      runs (x ∷ ps) =
-          let cell = cellAt file shape (x .0 - shape .inputs) in
-          ap₂ (λ (a b : List Token). a ++ b)
-          (pair-tokens (lentAt file shape arrivals target) (x .0) (cell .kind) (cell .pins) (x .1)) (runs ps)
+      let slopes = slopesBy form falls in
+      let times = timesFor circuit target in
+      let pairs = pairsAt file shape arrivals slopes target in
+      let run = runOf file put form falls in
+      let ofNumber : ℕ → List Token = λ n. concatMap (λ t. run (n, t)) (times n) in
+      by-number run (0, 0) (pairsIn (tableAt file shape arrivals form falls target)) (pairsCount put)
+      (sym (pairs-length (tableAt file shape arrivals form falls target)))
+      ∙ ap (concatMap run) (pairs-flat pairs)
+      ∙ within-each run (λ y. map (λ t. (y .0, t)) (times (y .0)))
+      (numbered (railCount slopes (net .inputs)) (railCells slopes (net .gates)))
+      ∙ each-in _ (λ y. ofNumber (y .0)) (numbered (railCount slopes (net .inputs)) (railCells slopes (net .gates)))
+      (λ y m. of-each run (λ t. (y .0, t)) (times (y .0)))
+      ∙ by-rails ofNumber slopes (net .inputs) (net .gates)
+      ∙ each-in _ (λ x. tokensOf (ofGate x)) (nodes net)
+      (λ x m.
+      each-in _ (λ r. tokensOf (ofTimes r)) (railsAt slopes x) (λ r j. rail-put x m r j)
+      ∙ sym (tokens-concatMap ofTimes (railsAt slopes x)))
+      ∙ sym (tokens-concatMap ofGate (nodes net))
 
   -- the gates' clauses, gate by gate
   gates-put : concatMap (gateRun file shape) (upFrom 0 (shape .gates))
@@ -191,22 +250,22 @@ module _ (file : List ℕ) (shape : Shape) (arrivals : List ℕ) (target : ℕ) 
       (nodes (netlistAt file shape)))
 
   -- 1, 2 and 3 in order
-  pub whole-tokens : wholeRun file (lentAt file shape arrivals target) target
-      ≡ tokensOf (formulaFor (circuitAt file shape arrivals) target)
+  pub whole-tokens : wholeRun file put form falls target ≡ tokensOf (formulaFor circuit target)
   unfolding formulaFor formula netlistAt
   whole-tokens =
       let net = netlistAt file shape in
-      let top = topOf (circuitAt file shape arrivals) in
-      let times = timesAt (net .inputs) top (net .outputs) target (net .gates) in
-      let v = variableIn (lentAt file shape arrivals target) in
+      let slopes = slopesBy form falls in
       let ofCells : List (List Literal) =
       concatMap (λ x. gateClauses nodeVariable (x .1 .kind) (x .1 .pins) (x .0)) (nodes net) in
+      let ofPairs : List (List Literal) = concatMap ofGate (nodes net) in
       let last : List (List Literal) =
-      clauseOf (map (λ o. late (shape .inputs) top nodeVariable v o target) (net .outputs)) in
+      clauseOf (concatMap (λ o. nodeLate slopes (shape .inputs) (topOf circuit) nodeVariable (variableIn put) o target)
+      (net .outputs)) in
       ap₂ (λ (a b : List Token). (a ++ b) ++ tokensOf last) gates-put pairs-put
       ∙ append-assoc (tokensOf ofCells) (tokensOf ofPairs) (tokensOf last)
       ∙ ap (λ (b : List Token). tokensOf ofCells ++ b) (sym (tokens-append ofPairs last))
       ∙ sym (tokens-append ofCells (ofPairs ++ last))
       ∙ ap (λ (w : ℕ → ℕ → ℕ). tokensOf
-      (formula (net .inputs) top nodeVariable w (nodes net) times (net .outputs) target))
+      (formula slopes (net .inputs) (topOf circuit) nodeVariable w (nodes net) (timesFor circuit target) (net .outputs)
+      target))
       variables

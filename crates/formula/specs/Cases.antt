@@ -28,7 +28,7 @@ use Rattle.netlist.specs.Open.{
 use Rattle.netlist.specs.Example.{circuitA}
 use Rattle.settle.specs.Settling.{grow, topsOf}
 use Rattle.clauses.specs.Clauses.{flat}
-use Rattle.pairs.specs.Pairs.{asked, timesAt, pairList, flatPairs, pairsFor, pairPlace}
+use Rattle.pairs.specs.Pairs.{asked, timesAt, pairList, flatPairs, lentPairs, pairsFor, pairPlace}
 use Rattle.formula.specs.declared.Built.the-variants.{Formula, Refused}
 use Rattle.formula.specs.Formula.{clauseOf, gateClauses, late, pairClauses, formula, pairVariable, formulaFor}
 use Rattle.formula.specs.Promise.{Building, numbersFor, countsFor, built, buildingRows, building}
@@ -118,6 +118,6 @@ unfolding
     circuitA netlistRows arrivalRows firstWrong countWrong backWrong pinsBefore gateWrong gatePlace sumWrong pinsAt
     pinWrong
     pinPlace outputWrong outputPlace pinsFit kindOf tableBytes shapeOf gateAt pinAt pinsFrom cellOf cellAt
-    netlistAt grow topsOf flat asked timesAt pairList flatPairs pairsFor pairPlace clauseOf gateClauses late pairClauses
+    netlistAt grow topsOf flat asked timesAt pairList flatPairs lentPairs pairsFor pairPlace clauseOf gateClauses late pairClauses
     formula pairVariable formulaFor numbersFor countsFor built buildingRows building printed gateLines cases
 hold = refl

@@ -32,7 +32,7 @@ use Rattle.netlist.specs.Edges.{written, oneGate}
 use Rattle.settle.specs.Settling.{grow, topsOf}
 use Rattle.settle.specs.Cases.{xorTwice, muxOfThree}
 use Rattle.clauses.specs.Clauses.{flat}
-use Rattle.pairs.specs.Pairs.{asked, timesAt, pairList, flatPairs, pairsFor, pairPlace, tableHolds}
+use Rattle.pairs.specs.Pairs.{asked, timesAt, pairList, flatPairs, lentPairs, pairsFor, pairPlace, tableHolds}
 use Rattle.formula.specs.declared.Built.the-variants.{Formula}
 use Rattle.formula.specs.Formula.{clauseOf, gateClauses, late, pairClauses, formula, pairVariable, formulaFor}
 use Rattle.formula.specs.Promise.{
@@ -219,13 +219,13 @@ unfolding
     arrivalRows
     firstWrong countWrong
     backWrong pinsBefore gateWrong gatePlace sumWrong pinsAt pinWrong pinPlace outputWrong outputPlace pinsFit kindOf
-    tableBytes shapeOf gateAt pinAt pinsFrom cellOf cellAt netlistAt grow topsOf flat asked timesAt pairList flatPairs
+    tableBytes shapeOf gateAt pinAt pinsFrom cellOf cellAt netlistAt grow topsOf flat asked timesAt pairList flatPairs lentPairs
     pairsFor pairPlace clauseOf gateClauses late pairClauses formula pairVariable formulaFor numbersFor countsFor
     built buildingRows building printed gateLines
 edges-hold = refl
 
 -- the pairs that a table of so many numbers holds: half as many, and 65,536 at most
 pub capacities-hold :
-    map tableHolds (0 ∷ 1 ∷ 2 ∷ 131071 ∷ 131072 ∷ 131073 ∷ 131074 ∷ 4294967295 ∷ [])
+    map (tableHolds 2) (0 ∷ 1 ∷ 2 ∷ 131071 ∷ 131072 ∷ 131073 ∷ 131074 ∷ 4294967295 ∷ [])
     ≡ 0 ∷ 0 ∷ 1 ∷ 65535 ∷ 65536 ∷ 65536 ∷ 65536 ∷ 65536 ∷ []
 capacities-hold = refl

@@ -3,17 +3,22 @@
 use mathlib.Core.Path.{_≡_}
 use mathlib.Core.Bool.{Bool, true, false, not, _||_, cond}
 use mathlib.Core.List.{List, [], _∷_, _++_, map}
-use Prim.Native.Nat.{ℕ, suc, _+_, _*_, _/_, _≤_}
+use Prim.Native.Nat.{ℕ, suc, _+_, _*_, _/_, _%_, _≤_}
 use lib.Dec.{eqb, ltb}
 use lib.IntN.{ℤ}
 use lib.ListN.{length, getD}
 use Rattle.basics.specs.Lists.{concatMap, upFrom}
+use Rattle.netlist.specs.declared.Kind.{Kind}
+use Rattle.netlist.specs.declared.Kind.the-variants.{Simple, Parity, Mux}
 use Rattle.netlist.specs.Netlist.{Cell}
 use Rattle.clauses.specs.Clauses.{Literal}
 use Rattle.clauses.specs.Codes.{literalCode, written}
+use Rattle.netlist.specs.declared.Form.{Form}
+use Rattle.netlist.specs.declared.Form.the-variants.{Single, RiseFall}
+use Rattle.formula.specs.declared.Asked.{Asked}
 use Rattle.formula.specs.declared.Emitted.{Emitted}
 use Rattle.formula.specs.declared.Share.{Share}
-use Rattle.formula.specs.declared.Share.the-variants.{Forced, Driver, Late, Control}
+use Rattle.formula.specs.declared.Share.the-variants.{Forced, Driver, Control}
 use Rattle.formula.specs.Formula.{nodeVariable, gateClauses}
 
 -- what is put next: a literal, by its code, or the 0 that ends a clause
@@ -67,12 +72,12 @@ codeBound = 4294967296
 abbrev pub lastPlace : ℕ
 lastPlace = 4000000000
 
--- a driver adds at most a clause of three literals
+-- a driver adds at most a clause of four literals
 abbrev pub shareMost : ℕ
-shareMost = 4
+shareMost = 5
 
 -- a gate takes at most 8 pins; it puts two runs over them and a clause's first literal and end, or four clauses of
--- three literals; and so does a pair
+-- three literals; and a pair puts no more
 abbrev pub gateMost : ℕ
 gateMost = 8 * shareMost + 8 * shareMost + 2
 
@@ -84,9 +89,9 @@ gatesMost = 448 * gateMost
 abbrev pub pairsMost : ℕ
 pairsMost = 65536 * gateMost
 
--- at most 64 outputs, and a clause's head and end
+-- at most 64 outputs, two parts each, and a clause's head and end
 abbrev pub outputsMost : ℕ
-outputsMost = 64 * shareMost + 2
+outputsMost = 128 + 2
 
 -- so many numbers more still have places, and there are no more clauses than numbers
 pub record Fits (most : ℕ) (at : Emitted) : Type 0 where
@@ -103,56 +108,85 @@ codeRun wanted code = cond (ltb code 2) [] (wants (wanted, code / 2) ∷ [])
 abbrev pub nodeIs : ℕ → Bool → Literal
 nodeIs node wanted = (wanted, node + 1)
 
--- what a driver adds, by its node and the code of its being late, beside a literal of the variable `own`
-abbrev pub shareRun : Share → Bool → Bool → ℕ → ℕ → ℕ → List Token
-shareRun Forced c k own node late = wants (nodeIs node (not c)) ∷ wants (k, own) ∷ ended ∷ []
-shareRun Driver c k own node late = wants (nodeIs node c) ∷ []
-shareRun Late c k own node late = codeRun true late
-shareRun Control c k own node late =
-    cond (eqb late 1) []
-    (((wants (false, own) ∷ []) ++ codeRun true late) ++ (wants (nodeIs node (not c)) ∷ ended ∷ []))
+-- how many codes so many drivers have: each one, or one for each final value. So many rails have so many nodes too
+abbrev pub railsFor : Form → ℕ → ℕ
+railsFor Single count = count
+railsFor RiseFall count = count * 2
 
--- a literal of a controlling cube: its driver late, by the code, or the driver not at the literal's value
-abbrev pub literalRun : ℕ → ℕ → Bool → List Token
-literalRun node late value = codeRun true late ++ (wants (nodeIs node (not value)) ∷ [])
+-- what was stored of driver i: its node and the codes of its being late, the second one 0, for no literal, where there
+-- is but one
+abbrev pub storedAt : Form → List ℕ → List ℕ → ℕ → Asked
+storedAt Single nodes lates i = record { node = getD nodes i 0; late = getD lates i 0; more = 0 }
+storedAt RiseFall nodes lates i =
+    record { node = getD nodes i 0; late = getD lates (i * 2) 0; more = getD lates (i * 2 + 1) 0 }
 
--- the clause of a cube of two literals, by the drivers' nodes and the codes of their being late
-abbrev pub cubeRun : ℕ → ℕ → ℕ → Bool → ℕ → ℕ → Bool → List Token
-cubeRun own x late a y later b =
-    cond (eqb late 1 || eqb later 1) []
-    ((((wants (false, own) ∷ []) ++ literalRun x late a) ++ literalRun y later b) ++ (ended ∷ []))
+-- a literal of a controlling cube: its driver late, by the codes, or the driver not at the literal's value
+abbrev pub literalRun : Asked → Bool → List Token
+literalRun driver value =
+    (codeRun true (driver .late) ++ codeRun true (driver .more)) ++ (wants (nodeIs (driver .node) (not value)) ∷ [])
+
+-- what a driver adds, beside a literal of the variable `own`
+abbrev pub shareRun : Share → Bool → Bool → ℕ → Asked → List Token
+shareRun Forced c k own driver = wants (nodeIs (driver .node) (not c)) ∷ wants (k, own) ∷ ended ∷ []
+shareRun Driver c k own driver = wants (nodeIs (driver .node) c) ∷ []
+shareRun Control c k own driver =
+    cond (eqb (driver .late) 1) [] (((wants (false, own) ∷ []) ++ literalRun driver c) ++ (ended ∷ []))
+
+-- the clause of a cube of two literals
+abbrev pub cubeRun : ℕ → Asked → Bool → Asked → Bool → List Token
+cubeRun own x a y b =
+    cond (eqb (x .late) 1 || eqb (y .late) 1) []
+    ((((wants (false, own) ∷ []) ++ literalRun x a) ++ literalRun y b) ++ (ended ∷ []))
 
 -- that of entries i and j, by what was stored of them
-abbrev pub pairOfPins : ℕ → List ℕ → List ℕ → ℕ → Bool → ℕ → Bool → List Token
-pairOfPins own nodes lates i a j b = cubeRun own (getD nodes i 0) (getD lates i 0) a (getD nodes j 0) (getD lates j 0) b
+abbrev pub pairOfPins : Form → ℕ → List ℕ → List ℕ → ℕ → Bool → ℕ → Bool → List Token
+pairOfPins form own nodes lates i a j b = cubeRun own (storedAt form nodes lates i) a (storedAt form nodes lates j) b
 
 -- entry x at a and entry y at 0, then x at b and y at 1
-abbrev pub twoCubes : ℕ → List ℕ → List ℕ → ℕ → Bool → Bool → ℕ → List Token
-twoCubes own nodes lates x a b y = pairOfPins own nodes lates x a y false ++ pairOfPins own nodes lates x b y true
+abbrev pub twoCubes : Form → ℕ → List ℕ → List ℕ → ℕ → Bool → Bool → ℕ → List Token
+twoCubes form own nodes lates x a b y =
+    pairOfPins form own nodes lates x a y false ++ pairOfPins form own nodes lates x b y true
 
 -- a multiplexer's controlling cubes, of select, a and b (rule K6)
-abbrev pub muxRun : ℕ → List ℕ → List ℕ → List Token
-muxRun own nodes lates =
-    (twoCubes own nodes lates 0 false false 1 ++ twoCubes own nodes lates 0 true true 2)
-    ++ twoCubes own nodes lates 1 false true 2
+abbrev pub muxRun : Form → ℕ → List ℕ → List ℕ → List Token
+muxRun form own nodes lates =
+    (twoCubes form own nodes lates 0 false false 1 ++ twoCubes form own nodes lates 0 true true 2)
+    ++ twoCubes form own nodes lates 1 false true 2
 
 -- what so many drivers add, by what was stored of them
-abbrev pub sharesRun : Share → Bool → Bool → ℕ → List ℕ → List ℕ → ℕ → List Token
-sharesRun share c k own nodes lates count =
-    concatMap (λ i. shareRun share c k own (getD nodes i 0) (getD lates i 0)) (upFrom 0 count)
+abbrev pub sharesRun : Form → Share → Bool → Bool → ℕ → List ℕ → List ℕ → ℕ → List Token
+sharesRun form share c k own nodes lates count =
+    concatMap (λ i. shareRun share c k own (storedAt form nodes lates i)) (upFrom 0 count)
 
--- the clause of a negated head and of what is late, by the codes, and whether something is late outright
+-- the clauses of what controls a gate of a kind
+abbrev pub controlRun : Form → Kind → ℕ → List ℕ → List ℕ → ℕ → List Token
+controlRun form (Simple c k) own nodes lates count = sharesRun form Control c false own nodes lates count
+controlRun form (Parity equal) own nodes lates count = []
+controlRun form Mux own nodes lates count = muxRun form own nodes lates
+
+-- the parts of so many codes
+abbrev pub partsRun : List ℕ → ℕ → List Token
+partsRun lates count = concatMap (λ i. codeRun true (getD lates i 0)) (upFrom 0 count)
+
+-- the clause of a negated head and of what is late, by so many codes, and whether something is late outright
 abbrev pub lateRun : ℕ → ℕ → List ℕ → Bool → List Token
-lateRun head count lates some =
-    cond some []
-    ((codeRun false head ++ concatMap (λ i. codeRun true (getD lates i 0)) (upFrom 0 count)) ++ (ended ∷ []))
+lateRun head count lates some = cond some [] ((codeRun false head ++ partsRun lates count) ++ (ended ∷ []))
+
+-- the final value that a rail of two speaks of
+abbrev pub railValue : ℕ → Bool
+railValue rail = eqb (rail % 2) 1
+
+-- the clause that a pair's gate has the final value that its rail speaks of
+abbrev pub fixedRun : Form → ℕ → ℕ → List Token
+fixedRun Single rail own = []
+fixedRun RiseFall rail own = wants (false, own) ∷ wants (nodeIs (rail / 2) (railValue rail)) ∷ ended ∷ []
 
 -- ---- what is put for one gate
 
 -- a simple gate (rule F9): two literals a pin, then one clause over all pins
-abbrev pub simpleRun : Bool → Bool → ℕ → List ℕ → List ℕ → ℕ → List Token
-simpleRun c k node nodes lates count =
-    ((sharesRun Forced c k (node + 1) nodes lates count ++ sharesRun Driver c k (node + 1) nodes lates count)
+abbrev pub simpleRun : Form → Bool → Bool → ℕ → List ℕ → List ℕ → ℕ → List Token
+simpleRun form c k node nodes lates count =
+    ((sharesRun form Forced c k (node + 1) nodes lates count ++ sharesRun form Driver c k (node + 1) nodes lates count)
     ++ (wants (nodeIs node (not k)) ∷ [])) ++ (ended ∷ [])
 
 -- a clause of three literals

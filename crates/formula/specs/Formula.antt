@@ -7,10 +7,11 @@ use lib.Dec.{leb, ltb}
 use Rattle.basics.specs.Lists.{any, concatMap}
 use Rattle.netlist.specs.declared.Kind.{Kind}
 use Rattle.netlist.specs.declared.Kind.the-variants.{Simple, Parity, Mux}
-use Rattle.netlist.specs.Netlist.{Cell, Pin, nodes, nodeCount, Circuit}
+use Rattle.netlist.specs.Netlist.{Cell, Pin, nodes, nodeCount, Circuit, Slopes}
 use Rattle.settle.specs.Settling.{topOf, Cube, cubes}
 use Rattle.clauses.specs.Clauses.{Literal}
-use Rattle.pairs.specs.Pairs.{timesAt, pairsFor, pairPlace}
+use Rattle.pairs.specs.Rails.{Rail, railsOf, railsAt}
+use Rattle.pairs.specs.Pairs.{timesFor, pairsFor, pairPlace}
 
 -- a part of a clause: true outright, false outright, or a literal (the value that it wants, and its variable)
 pub data Part (X : Type 0) : Type 0 where
@@ -69,37 +70,45 @@ module _ {X : Type 0} (node : ℕ → X) where
 
 -- ---- 2. each pair, and 3. some output is late
 
-module _ {X : Type 0} (I : ℕ) (top : ℕ → ℕ) (node : ℕ → X) (pair : ℕ → ℕ → X) where
-  -- A node is late at t (rule F2): true outright at 0, false outright above its top, otherwise open, the variable of
-  -- the pair. An input is late up to its top, which is its arrival, and not beyond: it has no pair
-  unfoldable pub late : ℕ → ℕ → Part X
-  late n t =
+-- over the slopes, I inputs, the nodes' tops, and the variables of a node and of a rail at a time
+module _ {X : Type 0} (slopes : Slopes) (I : ℕ) (top : ℕ → ℕ) (node : ℕ → X) (pair : ℕ → ℕ → X) where
+  -- A node is late at t by one of its rails (rule F2): true outright at 0, false outright above its top, otherwise open,
+  -- the variable of the pair. An input is late up to its top, which is its arrival, and not beyond: it has no pair
+  unfoldable pub late : ℕ → ℕ → ℕ → Part X
+  late n rail t =
       cond (ltb n I) (cond (leb t (top n)) sure never)
-      (cond (leb t 0) sure (cond (leb t (top n)) (literal true (pair n t)) never))
+      (cond (leb t 0) sure (cond (leb t (top n)) (literal true (pair rail t)) never))
+
+  -- a node is late at t: by one of its rails
+  abbrev pub nodeLate : ℕ → ℕ → List (Part X)
+  nodeLate n t = map (λ rail. late n rail t) (railsOf slopes n)
 
   -- the pin's driver is late at t less the pin's delay; a negative time is taken as 0 (rule F3)
-  abbrev pub driverLate : ℕ → Pin → Part X
-  driverLate t p = late (p .driver) (t - p .delay)
+  abbrev pub driverLate : ℕ → Pin → List (Part X)
+  driverLate t p = nodeLate (p .driver) (t - p .delay)
 
   -- of a controlling cube's literal: its driver late, or the literal false
   abbrev pub cubeParts : ℕ → Pin × Bool → List (Part X)
-  cubeParts t l = driverLate t (l .0) ∷ literal (not (l .1)) (node (l .0 .driver)) ∷ []
+  cubeParts t l = driverLate t (l .0) ++ (literal (not (l .1)) (node (l .0 .driver)) ∷ [])
 
   -- the clause of a controlling cube (rule F12): not p, or for some literal of the cube its driver late, or it is false
   abbrev pub cubeClause : ℕ → ℕ → Cube Pin → List (List (Bool × X))
-  cubeClause f t cube = clauseOf (literal false (pair f t) ∷ concatMap (cubeParts t) cube)
+  cubeClause rail t cube = clauseOf (literal false (pair rail t) ∷ concatMap (cubeParts t) cube)
 
-  -- the clauses of a pair (rule F12): not p, or one of the drivers late, in pin order; then one a controlling cube
-  unfoldable pub pairClauses : ℕ → Kind → List Pin → ℕ → List (List (Bool × X))
-  pairClauses f k ps t =
-      clauseOf (literal false (pair f t) ∷ map (driverLate t) ps) ++ concatMap (cubeClause f t) (cubes k ps)
+  -- the clauses of a rail's pair: where the rail speaks of a final value, not p, or the gate has it (rule R5); not p, or
+  -- one of the drivers late, in pin order; then one a controlling cube (rule F12)
+  unfoldable pub pairClauses : Rail → ℕ → List (List (Bool × X))
+  pairClauses r t =
+      map (λ value. (false, pair (r .number) t) ∷ is node (r .node) value ∷ []) (r .fixes)
+      ++ (clauseOf (literal false (pair (r .number) t) ∷ concatMap (driverLate t) (r .pins))
+      ++ concatMap (cubeClause (r .number) t) (cubes (r .kind) (r .pins)))
 
-  -- 1, 2 and 3 in order; `times` gives the times of a node's pairs, rising
+  -- 1, 2 and 3 in order; `times` gives the times of a rail's pairs, rising
   unfoldable pub formula : List (ℕ × Cell) → (ℕ → List ℕ) → List ℕ → ℕ → List (List (Bool × X))
   formula gates times outputs target =
       concatMap (λ x. gateClauses node (x .1 .kind) (x .1 .pins) (x .0)) gates
-      ++ (concatMap (λ x. concatMap (pairClauses (x .0) (x .1 .kind) (x .1 .pins)) (times (x .0))) gates
-      ++ clauseOf (map (λ o. late o target) outputs))
+      ++ (concatMap (λ x. concatMap (λ r. concatMap (pairClauses r) (times (r .number))) (railsAt slopes x)) gates
+      ++ clauseOf (concatMap (λ o. nodeLate o target) outputs))
 
 -- ---- the variables' numbers
 
@@ -109,11 +118,10 @@ nodeVariable n = suc n
 
 -- the pairs have the numbers after N, in their order (rule F5)
 unfoldable pub pairVariable : Circuit → ℕ → ℕ → ℕ → ℕ
-pairVariable circuit target f t = suc (nodeCount (circuit .net) + pairPlace f t (pairsFor circuit target))
+pairVariable circuit target rail t = suc (nodeCount (circuit .net) + pairPlace rail t (pairsFor circuit target))
 
 -- the formula for a target
 unfoldable pub formulaFor : Circuit → ℕ → List (List Literal)
 formulaFor circuit target =
-    formula (circuit .net .inputs) (topOf circuit) nodeVariable (pairVariable circuit target) (nodes (circuit .net))
-    (timesAt (circuit .net .inputs) (topOf circuit) (circuit .net .outputs) target (circuit .net .gates))
-    (circuit .net .outputs) target
+    formula (circuit .slopes) (circuit .net .inputs) (topOf circuit) nodeVariable (pairVariable circuit target)
+    (nodes (circuit .net)) (timesFor circuit target) (circuit .net .outputs) target

@@ -1,26 +1,43 @@
--- What serves the code that writes the pairs' clauses: lateness by what is lent to it, as one code, and what the
+-- What serves the code that writes the pairs' clauses: lateness by what is lent to it, as one code a rail, and what the
 -- code leans on.
 use mathlib.Core.Path.{_≡_}
-use mathlib.Core.Bool.{Bool, false}
-use mathlib.Core.List.{List, [], _∷_, _++_, map}
+use mathlib.Core.Bool.{Bool, true, false, cond}
+use mathlib.Core.List.{List, [], _∷_, _++_, map, List·Memᴰ}
 use Prim.Native.Nat.{ℕ, suc, _+_, _-_, _*_, _/_, _≤_, _<_}
 use lib.Dec.{T}
-use lib.ListN.{length, getD, take}
+use lib.ListN.{length, getD, take, set}
 use Rattle.basics.specs.Lists.{any, concatMap, upFrom}
+use Rattle.netlist.specs.declared.Form.{Form}
+use Rattle.netlist.specs.declared.Form.the-variants.{Single, RiseFall}
 use Rattle.netlist.specs.declared.Kind.{Kind}
 use Rattle.netlist.specs.declared.Shape.{Shape}
 use Rattle.netlist.specs.declared.Gate.{Gate}
-use Rattle.netlist.specs.Netlist.{Pin, takes}
-use Rattle.netlist.specs.File.{firstAt, countAt, driverAt, delayAt, outputAt, cellAt, netlistAt}
+use Rattle.netlist.specs.Netlist.{Pin, Slopes, alike, apart, slopesBy, delayed, fallOf, pinsFor, takes}
+use Rattle.netlist.specs.File.{firstAt, countAt, outputAt, pinAt, pinsFrom, cellAt, netlistAt}
 use Rattle.clauses.specs.Codes.{literalCode}
-use Rattle.settle.specs.Settling.{Cube, cubes}
+use Rattle.settle.specs.Settling.{Cube}
+use Rattle.pairs.specs.Rails.{Rail}
 use Rattle.pairs.specs.Pairs.{pairPlace}
 use Rattle.pairs.specs.Table.{pairsIn, pairAt, Sorted}
-use Rattle.pairs.specs.Promise.{Findable, Begins}
+use Rattle.pairs.specs.Promise.{Findable, Bounds, Begins}
+use Rattle.formula.specs.declared.Asked.{Asked}
 use Rattle.formula.specs.declared.Side.{Side}
-use Rattle.formula.specs.declared.Side.the-variants.{Pins, Outputs}
-use Rattle.formula.specs.Formula.{Part, sure, never, literal, isSure, clauseOf, late, cubeParts, nodeVariable}
-use Rattle.formula.specs.Emission.{Token, wants, tokensOf, cellRun, codeBound}
+use Rattle.formula.specs.declared.Side.the-variants.{Pins, Falls, Outputs}
+use Rattle.formula.specs.Formula.{
+  Part,
+  sure,
+  never,
+  literal,
+  isSure,
+  clauseOf,
+  late,
+  nodeLate,
+  driverLate,
+  cubeParts,
+  pairClauses,
+  nodeVariable,
+}
+use Rattle.formula.specs.Emission.{Token, wants, tokensOf, cellRun, codeBound, railsFor, storedAt, railValue}
 
 -- ---- a part as one code
 
@@ -60,79 +77,131 @@ topIn tops n = getD tops n 0
 
 -- a pair's variable, by its place in the table
 unfoldable pub variableIn : Lent → ℕ → ℕ → ℕ
-variableIn l f t = suc (nodesIn l + pairPlace f t (pairsIn (l .table)))
+variableIn l rail t = suc (nodesIn l + pairPlace rail t (pairsIn (l .table)))
 
--- that a node is late at t
-abbrev pub lateIn : Lent → ℕ → ℕ → Part ℕ
-lateIn l = late (l .shape .inputs) (topIn (l .tops)) nodeVariable (variableIn l)
+-- that a node is late at t by one of its rails; how many rails there are does not matter
+abbrev pub lateIn : Lent → ℕ → ℕ → ℕ → Part ℕ
+lateIn l = late alike (l .shape .inputs) (topIn (l .tops)) nodeVariable (variableIn l)
+
+-- the rails of a node
+abbrev pub railsBy : Form → ℕ → List ℕ
+railsBy Single node = node ∷ []
+railsBy RiseFall node = node * 2 ∷ (node * 2 + 1) ∷ []
+
+-- what is known of a node at t: the codes of its being late by its rails
+abbrev pub askedBy : Form → Lent → ℕ → ℕ → Asked
+askedBy Single l node t = record { node = node; late = partCode (lateIn l node node t); more = 0 }
+askedBy RiseFall l node t =
+    record {
+      node = node;
+      late = partCode (lateIn l node (node * 2) t);
+      more = partCode (lateIn l node (node * 2 + 1) t);
+    }
+
+-- a node is late at t
+abbrev pub nodeLateIn : Lent → Slopes → ℕ → ℕ → List (Part ℕ)
+nodeLateIn l slopes = nodeLate slopes (l .shape .inputs) (topIn (l .tops)) nodeVariable (variableIn l)
+
+-- a pin's driver is late at t less the pin's delay
+abbrev pub pinLate : Lent → Slopes → ℕ → Pin → List (Part ℕ)
+pinLate l slopes = driverLate slopes (l .shape .inputs) (topIn (l .tops)) nodeVariable (variableIn l)
 
 -- ---- what is asked
 
--- how many entries a file has on a side
-abbrev pub entries : Shape → Side → ℕ
-entries shape Pins = shape .pins
-entries shape Outputs = shape .outputs
+-- an entry asks as a pin does: a pin by its own delay, a pin by the delay that is lent for a final value of 0, an output
+-- without delay
+abbrev pub entryAt : List ℕ → Shape → List ℕ → Side → ℕ → Pin
+entryAt file shape falls Pins entry = pinAt file shape entry
+entryAt file shape falls Falls entry = delayed (fallOf falls) (pinAt file shape entry)
+entryAt file shape falls Outputs entry = record { driver = outputAt file shape entry; delay = 0; number = entry }
 
--- the node that an entry asks for: a pin's driver, or the output
-abbrev pub nodeAt : List ℕ → Shape → Side → ℕ → ℕ
-nodeAt file shape Pins pin = driverAt file shape pin
-nodeAt file shape Outputs position = outputAt file shape position
+-- the entry is there, and its delay is
+abbrev pub Within : Shape → List ℕ → Side → ℕ → Type 0
+Within shape falls Pins entry = entry < shape .pins
+Within shape falls Falls entry = (entry < shape .pins) × (entry < length falls)
+Within shape falls Outputs entry = entry < shape .outputs
 
--- and the time: less a pin's delay, or as it is
-abbrev pub timeAt : List ℕ → Shape → Side → ℕ → ℕ → ℕ
-timeAt file shape Pins t pin = t - delayAt file shape pin
-timeAt file shape Outputs t position = t
+-- the node that is asked for is late
+abbrev pub lateAt : List ℕ → Lent → Form → List ℕ → Side → ℕ → ℕ → List (Part ℕ)
+lateAt file l form falls side t entry = pinLate l (slopesBy form falls) t (entryAt file (l .shape) falls side entry)
 
--- that a pin's driver is late at t less the pin's delay, or an output at t
-abbrev pub lateAt : List ℕ → Lent → Side → ℕ → ℕ → Part ℕ
-lateAt file l side t entry = lateIn l (nodeAt file (l .shape) side entry) (timeAt file (l .shape) side t entry)
+-- what is known of it
+abbrev pub askedAt : List ℕ → Lent → Form → List ℕ → Side → ℕ → ℕ → Asked
+askedAt file l form falls side t entry =
+    askedBy form l (entryAt file (l .shape) falls side entry .driver)
+    (t - entryAt file (l .shape) falls side entry .delay)
 
 -- ---- what is put
 
--- that the pin's driver is late at t less the pin's delay
-abbrev pub pinLate : Lent → ℕ → Pin → Part ℕ
-pinLate l t p = lateIn l (p .driver) (t - p .delay)
-
 -- the clause of a controlling cube (rule F12), by the pair's variable
-abbrev pub controlIn : Lent → ℕ → ℕ → Cube Pin → List Token
-controlIn l pair t cube =
+abbrev pub controlIn : Lent → Slopes → ℕ → ℕ → Cube Pin → List Token
+controlIn l slopes pair t cube =
     tokensOf
     (clauseOf
     (literal false pair
-    ∷ concatMap (cubeParts (l .shape .inputs) (topIn (l .tops)) nodeVariable (variableIn l) t) cube))
+    ∷ concatMap (cubeParts slopes (l .shape .inputs) (topIn (l .tops)) nodeVariable (variableIn l) t) cube))
 
--- the first clause of a pair (rule F12)
-abbrev pub driversLate : Lent → ℕ → List Pin → ℕ → List Token
-driversLate l pair pins t = tokensOf (clauseOf (literal false pair ∷ map (pinLate l t) pins))
+-- "not p, or some driver late" (rule F12)
+abbrev pub driversLate : Lent → Slopes → ℕ → List Pin → ℕ → List Token
+driversLate l slopes pair pins t = tokensOf (clauseOf (literal false pair ∷ concatMap (pinLate l slopes t) pins))
 
--- the clauses of a pair with this variable, whose gate has this kind and these pins
-abbrev pub clausesIn : Lent → ℕ → Kind → List Pin → ℕ → List Token
-clausesIn l pair kind pins t = driversLate l pair pins t ++ concatMap (controlIn l pair t) (cubes kind pins)
+-- the clauses of a rail's pair
+abbrev pub clausesIn : Lent → Slopes → Rail → ℕ → List Token
+clausesIn l slopes r t =
+    tokensOf (pairClauses slopes (l .shape .inputs) (topIn (l .tops)) nodeVariable (variableIn l) r t)
+
+-- a rail by its number, of a gate of this kind and these pins
+abbrev pub railWith : Form → List ℕ → ℕ → Kind → List Pin → Rail
+railWith Single falls rail kind pins = record { number = rail; node = rail; fixes = []; kind = kind; pins = pins }
+railWith RiseFall falls rail kind pins =
+    record {
+      number = rail;
+      node = rail / 2;
+      fixes = railValue rail ∷ [];
+      kind = kind;
+      pins = pinsFor (apart falls) (railValue rail) pins;
+    }
+
+-- the node of a rail
+abbrev pub nodeBy : Form → ℕ → ℕ
+nodeBy Single rail = rail
+nodeBy RiseFall rail = rail / 2
+
+-- the delays that a rail goes by: the lent ones where the gate ends at 0
+abbrev pub sideOf : Form → ℕ → Side
+sideOf Single rail = Pins
+sideOf RiseFall rail = cond (railValue rail) Pins Falls
 
 -- the clauses of a gate by its number
 abbrev pub gateRun : List ℕ → Shape → ℕ → List Token
 gateRun file shape number = cellRun (shape .inputs + number, cellAt file shape number)
 
+-- a rail of a file by its number
+abbrev pub railAt : List ℕ → Shape → Form → List ℕ → ℕ → Rail
+railAt file shape form falls rail =
+    railWith form falls rail (cellAt file shape (nodeBy form rail - shape .inputs) .kind)
+    (cellAt file shape (nodeBy form rail - shape .inputs) .pins)
+
 -- the clauses of a pair
-abbrev pub runOf : List ℕ → Lent → ℕ × ℕ → List Token
-runOf file l x =
-    clausesIn l (variableIn l (x .0) (x .1)) (cellAt file (l .shape) (x .0 - l .shape .inputs) .kind)
-    (cellAt file (l .shape) (x .0 - l .shape .inputs) .pins) (x .1)
+abbrev pub runOf : List ℕ → Lent → Form → List ℕ → ℕ × ℕ → List Token
+runOf file l form falls x = clausesIn l (slopesBy form falls) (railAt file (l .shape) form falls (x .0)) (x .1)
 
 -- the clauses of pair k of the table
-abbrev pub pairRun : List ℕ → Lent → ℕ → List Token
-pairRun file l k = runOf file l (pairAt (pairsIn (l .table)) k)
+abbrev pub pairRun : List ℕ → Lent → Form → List ℕ → ℕ → List Token
+pairRun file l form falls k = runOf file l form falls (pairAt (pairsIn (l .table)) k)
 
 -- the clause of the outputs (rule F13)
-abbrev pub outputsLate : List ℕ → Lent → ℕ → List Token
-outputsLate file l target = tokensOf (clauseOf (map (λ o. lateIn l o target) (netlistAt file (l .shape) .outputs)))
+abbrev pub outputsLate : List ℕ → Lent → Form → List ℕ → ℕ → List Token
+outputsLate file l form falls target =
+    tokensOf
+    (clauseOf (concatMap (λ o. nodeLateIn l (slopesBy form falls) o target) (netlistAt file (l .shape) .outputs)))
 
 -- 1, 2 and 3 in order
-abbrev pub wholeRun : List ℕ → Lent → ℕ → List Token
-wholeRun file l target =
+abbrev pub wholeRun : List ℕ → Lent → Form → List ℕ → ℕ → List Token
+wholeRun file l form falls target =
     (concatMap (gateRun file (l .shape)) (upFrom 0 (l .shape .gates))
-    ++ concatMap (pairRun file l) (upFrom 0 (pairsCount l)))
-    ++ outputsLate file l target
+    ++ concatMap (pairRun file l form falls) (upFrom 0 (pairsCount l)))
+    ++ outputsLate file l form falls target
 
 -- ---- what the code leans on
 
@@ -143,63 +212,84 @@ pub record Slices (l : Lent) : Type 0 where
   pub pairs-few : length (l .table) ≤ 131072
   pub sorted : Sorted (pairsIn (take (pairsCount l * 2) (l .table)))
 
--- and where the pairs of each node begin
-pub record Ready (l : Lent) (starts : List ℕ) : Type 0 where
+-- and where the pairs of each rail begin
+pub record Ready (form : Form) (l : Lent) (starts : List ℕ) : Type 0 where
   pub slices : Slices l
-  pub begins : Begins (pairsIn (take (pairsCount l * 2) (l .table))) starts (nodesIn l)
+  pub begins : Begins (pairsIn (take (pairsCount l * 2) (l .table))) starts (railsFor form (nodesIn l))
 
--- where a node is late at t by a pair, the table has it
-pub record Asking (l : Lent) (node t : ℕ) : Type 0 where
+-- where a node is late at t by a pair of one of its rails, the table has it
+pub record RailAsks (l : Lent) (starts : List ℕ) (node rail t : ℕ) : Type 0 where
+  pub slices : Slices l
+  pub bounds : Bounds (pairsIn (take (pairsCount l * 2) (l .table))) starts rail
   pub node-has : node < length (l .tops)
-  pub listed : l .shape .inputs ≤ node → 0 < t → t ≤ getD (l .tops) node 0 → Findable (l .table) (pairsCount l) node t
+  pub listed : l .shape .inputs ≤ node → 0 < t → t ≤ getD (l .tops) node 0 → Findable (l .table) (pairsCount l) rail t
+
+-- so for each of its rails
+pub record Asking (form : Form) (l : Lent) (node t : ℕ) : Type 0 where
+  pub node-has : node < length (l .tops)
+  pub listed : (rail : ℕ) → List·Memᴰ rail (railsBy form node) → l .shape .inputs ≤ node → 0 < t →
+      t ≤ getD (l .tops) node 0 → Findable (l .table) (pairsCount l) rail t
 
 -- so for each of some entries
-pub record Served (file : List ℕ) (l : Lent) (side : Side) (first count t : ℕ) : Type 0 where
-  pub within : first + count ≤ entries (l .shape) side
+pub record Served (file : List ℕ) (l : Lent) (form : Form) (falls : List ℕ) (side : Side) (first count t : ℕ) :
+    Type 0 where
+  pub within : (entry : ℕ) → first ≤ entry → entry < first + count → Within (l .shape) falls side entry
   pub asks : (entry : ℕ) → first ≤ entry → entry < first + count →
-      Asking l (nodeAt file (l .shape) side entry) (timeAt file (l .shape) side t entry)
+      Asking form l (entryAt file (l .shape) falls side entry .driver)
+      (t - entryAt file (l .shape) falls side entry .delay)
 
 -- a gate, and what its drivers are asked for at t
-pub record Gated (file : List ℕ) (l : Lent) (gate : Gate) (t : ℕ) : Type 0 where
-  pub drivers : Served file l Pins (gate .first) (gate .count) t
+pub record Gated (file : List ℕ) (l : Lent) (form : Form) (falls : List ℕ) (side : Side) (gate : Gate) (t : ℕ) :
+    Type 0 where
+  pub drivers : Served file l form falls side (gate .first) (gate .count) t
   pub within : gate .first + gate .count ≤ 2048
   pub few : gate .count ≤ 8
   pub takes-all : T (takes (gate .kind) (gate .count))
 
--- a pair of the table: a gate's node, at its own place k, and its drivers
-pub record Stands (file : List ℕ) (l : Lent) (k node t : ℕ) : Type 0 where
-  pub low : l .shape .inputs ≤ node
-  pub high : node < nodesIn l
-  pub own : pairPlace node t (pairsIn (l .table)) ≡ k
-  pub drivers : Served file l Pins (firstAt file (l .shape) (node - l .shape .inputs))
-      (countAt file (l .shape) (node - l .shape .inputs)) t
+-- a pair of the table: a gate's rail, at its own place k, and its drivers
+pub record Stands (file : List ℕ) (l : Lent) (form : Form) (falls : List ℕ) (k rail t : ℕ) : Type 0 where
+  pub low : l .shape .inputs ≤ nodeBy form rail
+  pub high : nodeBy form rail < nodesIn l
+  pub own : pairPlace rail t (pairsIn (l .table)) ≡ k
+  pub drivers : Served file l form falls (sideOf form rail) (firstAt file (l .shape) (nodeBy form rail - l .shape .inputs))
+      (countAt file (l .shape) (nodeBy form rail - l .shape .inputs)) t
 
 -- each pair of the table
-pub record AllStand (file : List ℕ) (l : Lent) : Type 0 where
+pub record AllStand (file : List ℕ) (l : Lent) (form : Form) (falls : List ℕ) : Type 0 where
   pub stands : (k : ℕ) → k < pairsCount l →
-      Stands file l k (pairAt (pairsIn (l .table)) k .0) (pairAt (pairsIn (l .table)) k .1)
+      Stands file l form falls k (pairAt (pairsIn (l .table)) k .0) (pairAt (pairsIn (l .table)) k .1)
 
 -- ---- what the code finds
 
 -- a pair's place
-pub record PlaceFound (table : List ℕ) (node t place : ℕ) : Type 0 where
-  pub is : place ≡ pairPlace node t (pairsIn table)
+pub record PlaceFound (table : List ℕ) (rail t place : ℕ) : Type 0 where
+  pub is : place ≡ pairPlace rail t (pairsIn table)
   pub below : place < length table / 2
 
--- that a node is late at t, as a code
-pub record LateCode (l : Lent) (node t code : ℕ) : Type 0 where
-  pub is : code ≡ partCode (lateIn l node t)
+-- that a node is late at t by a rail, as a code
+pub record LateCode (l : Lent) (node rail t code : ℕ) : Type 0 where
+  pub is : code ≡ partCode (lateIn l node rail t)
   pub small : code < codeBound
 
--- the two lists that hold what is read have 64 places each
+-- a node and its codes have room in what is stored of them
+pub record Storable (asked : Asked) : Type 0 where
+  pub node-small : asked .node < 65536
+  pub late-small : asked .late < codeBound
+  pub more-small : asked .more < codeBound
+
+-- the lists that hold what is read: 64 nodes, and two codes each
 pub record Long (nodes lates : List ℕ) : Type 0 where
   pub nodes-long : length nodes ≡ 64
-  pub lates-long : length lates ≡ 64
+  pub lates-long : length lates ≡ 128
 
--- the entries were read: their nodes, the codes of their lateness, and whether some is late outright
-pub record Reads (file : List ℕ) (l : Lent) (side : Side) (first count t : ℕ) (nodes lates : List ℕ) (some : Bool) :
-    Type 0 where
-  pub nodes-are : take count nodes ≡ map (nodeAt file (l .shape) side) (upFrom first count)
-  pub lates-are : take count lates ≡ map (λ e. partCode (lateAt file l side t e)) (upFrom first count)
-  pub some-is : some ≡ any (λ e. isSure (lateAt file l side t e)) (upFrom first count)
+-- the codes after those of entry i were stored
+abbrev pub keptBy : Form → List ℕ → ℕ → Asked → List ℕ
+keptBy Single lates i asked = set lates i (asked .late)
+keptBy RiseFall lates i asked = set (set lates (i * 2) (asked .late)) (i * 2 + 1) (asked .more)
+
+-- the entries were read: their nodes and the codes of their lateness, and whether some is late outright
+pub record Reads (file : List ℕ) (l : Lent) (form : Form) (falls : List ℕ) (side : Side) (first count t : ℕ)
+    (nodes lates : List ℕ) (some : Bool) : Type 0 where
+  pub stored : (i : ℕ) → i < count → storedAt form nodes lates i ≡ askedAt file l form falls side t (first + i)
+  pub some-is : some ≡ any (λ e. any isSure (lateAt file l form falls side t e)) (upFrom first count)
   pub long : Long nodes lates

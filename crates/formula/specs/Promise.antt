@@ -1,4 +1,5 @@
--- What `build` answers and leaves in the two lent slices, for every input: 1..7, 16, 10, then 9 for the formula.
+-- What `build` and `build_rise_fall` answer and leave in the two lent slices, for every input: 1..7, 16, 19 in the
+-- rise-fall form, 10, then 9 for the formula.
 -- Interface: building, Meets.
 use mathlib.Core.Path.{_≡_}
 use mathlib.Core.List.{List, [], _∷_, _++_}
@@ -15,7 +16,7 @@ use Rattle.clauses.specs.Clauses.{flat}
 use Rattle.formula.specs.declared.Built.{Built}
 use Rattle.formula.specs.declared.Built.the-variants.{Formula, Refused}
 use Rattle.formula.specs.declared.Counts.{Counts}
-use Rattle.pairs.specs.Pairs.{flatPairs, pairsFor, tableHolds}
+use Rattle.pairs.specs.Pairs.{lentPairs, pairsFor, pairNumbers, tableHolds}
 use Rattle.formula.specs.Formula.{formulaFor}
 
 -- the answer, and the whole content of each lent slice
@@ -55,15 +56,15 @@ built circuit target pairsRoom formulaRoom =
     record {
       answer = Formula (countsFor circuit target);
       pairs =
-          flatPairs (pairsFor circuit target)
-          ++ replicate (pairsRoom - length (pairsFor circuit target) * 2) 0;
+          lentPairs (circuit .slopes) (pairsFor circuit target)
+          ++ replicate (pairsRoom - length (pairsFor circuit target) * pairNumbers (circuit .slopes)) 0;
       formula = numbersFor circuit target ++ replicate (formulaRoom - length (numbersFor circuit target)) (pos 0);
     }
 
 -- 10 PAIRS: the pairs don't fit the table; then 9 ROOM for the formula
 unfoldable pub buildingRows : Circuit → ℕ → ℕ → ℕ → List Row
 buildingRows circuit target pairsRoom formulaRoom =
-    (ltb (tableHolds pairsRoom) (length (pairsFor circuit target)), Pairs)
+    (ltb (tableHolds (pairNumbers (circuit .slopes)) pairsRoom) (length (pairsFor circuit target)), Pairs)
     ∷ roomRow (length (numbersFor circuit target)) formulaRoom ∷ []
 
 -- of an accepted circuit

@@ -236,7 +236,8 @@ module _ {l : List (ℕ × ℕ)} {file : List ℕ} {shape : Shape} {slopes : Slo
   asks-more {pins = pins} x v w =
       adds-then (Within top (Asks (In (x ∷ pins)) l file shape slopes target f)) v w
       (λ t u.
-      within-as (Asks (In (x ∷ pins)) l file shape slopes target f) t (asks-as (In (x ∷ pins)) t (λ y m. List·Memᴰ·tail m)) u)
+      within-as (Asks (In (x ∷ pins)) l file shape slopes target f) t
+      (asks-as (In (x ∷ pins)) t (λ y m. List·Memᴰ·tail m)) u)
       (λ t u. within-as (Asks (In (x ∷ pins)) l file shape slopes target f) t (λ y. byPin x (List·Memᴰ·head refl) y) u)
       (λ t u. pick t u (u .has))
     where

@@ -1,6 +1,6 @@
--- What the formula needs of the pairs of a circuit whose netlist is valid: they hold what the outputs ask for, are closed
--- under the drivers, and each has its own place in the list. Laws: place-below, place-at; closed-for, listed-for,
--- placed-for, place-for, pair-for, time-for, output-for, driver-for. Assumes nothing.
+-- What the formula needs of the pairs of a circuit whose netlist is valid: they hold what the outputs ask for, are
+-- closed under the drivers, and each has its own place in the list. Laws: place-below, place-at; closed-for,
+-- listed-for, placed-for, place-for, pair-for, time-for, output-for, driver-for. Assumes nothing.
 use mathlib.Core.Path.{_≡_, refl, sym, ap₂, subst}
 use mathlib.Core.Bool.{Bool, true, false, _&&_, cond}
 use mathlib.Core.List.{List, _∷_, List·Memᴰ, List·Memᴰ·head, List·Memᴰ·tail}

@@ -1,7 +1,6 @@
--- Where the pairs of each gate's rail begin among those found, counted from the end: so a pair more at the front leaves it as
--- it is, and a rail that is done begins at the front. Laws: ended-starts, ended-later, ended-rail, ended-more, ended-down;
--- drives-above.
--- Assumes nothing.
+-- Where the pairs of each gate's rail begin among those found, counted from the end: so a pair more at the front leaves
+-- it as it is, and a rail that is done begins at the front. Laws: ended-starts, ended-later, ended-rail, ended-more,
+-- ended-down; drives-above. Assumes nothing.
 use mathlib.Core.Path.{_≡_, ap}
 use mathlib.Core.List.{List, [], _∷_, List·Memᴰ}
 use Prim.Native.Nat.{ℕ, zero, suc, _+_, _-_, _*_, _<_, _≤_}
@@ -95,5 +94,8 @@ drives-above {file} {shape} {f} {x} holds d =
     holds .drivers-below (d .gate) (firstAt file shape (d .gate) + own .pin) (d .low) (omega arith)
     (omega (arith, own .within))
     in
-    let pin : x .1 ≡ firstAt file shape (d .gate) + own .pin = ap (λ (y : ℕ × ℕ). y .1) (own .is) in
-    (omega (arith, own .drives), omega (arith, d .low), omega (arith, holds .pins-within (d .gate) (d .low), own .within))
+    let pin : x .1 ≡ firstAt file shape (d .gate) + own .pin = ap (λ (y : ℕ × ℕ). y .1) (own .is) in (
+      omega (arith, own .drives),
+      omega (arith, d .low),
+      omega (arith, holds .pins-within (d .gate) (d .low), own .within),
+    )

@@ -43,9 +43,8 @@ use Rattle.pairs.proofs.Step.{firstRail, lastRail, AskedAt, down, outpu
 abbrev pub foundIn : List ℕ → ℕ → List (ℕ × ℕ)
 foundIn table at = pairsIn (take (length table - at * 2) (drop (at * 2) table))
 
-pub record Filling (file : List ℕ) (shape : Shape) (arrivals : List ℕ) (slopes : Slopes) (target : ℕ) (table₀ table ends : List ℕ)
-    (at f b : ℕ) :
-    Type 0 where
+pub record Filling (file : List ℕ) (shape : Shape) (arrivals : List ℕ) (slopes : Slopes) (target : ℕ)
+    (table₀ table ends : List ℕ) (at f b : ℕ) : Type 0 where
   pub done : List (ℕ × ℕ)
   pub len : length table ≡ length table₀
   pub even : length table₀ / 2 * 2 ≡ length table₀
@@ -57,7 +56,8 @@ pub record Filling (file : List ℕ) (shape : Shape) (arrivals : List ℕ) (slop
   pub rising : Rising Before done
   pub sound : (x : ℕ × ℕ) → List·Memᴰ x done → AskedAt file shape arrivals slopes target (x .0) (x .1)
   pub low : (x : ℕ × ℕ) → List·Memᴰ x done → keyOf (f, b) ≤ keyOf x
-  pub full : (n s : ℕ) → AskedAt file shape arrivals slopes target n s → keyOf (f, b) ≤ keyOf (n, s) → List·Memᴰ (n, s) done
+  pub full : (n s : ℕ) → AskedAt file shape arrivals slopes target n s → keyOf (f, b) ≤ keyOf (n, s) →
+      List·Memᴰ (n, s) done
   pub ended : Ended done (firstRail shape slopes) (lastRail shape slopes) ends (f + 1)
 
 module _ {file : List ℕ} {shape : Shape} {arrivals : List ℕ} (slopes : Slopes) (given : Given file shape arrivals)
@@ -109,7 +109,8 @@ module _ {file : List ℕ} {shape : Shape} {arrivals : List ℕ} (slopes : Slope
       }
 
   -- the pairs in the table's end are those found
-  seen : {table₀ table ends : List ℕ} {at f b : ℕ} (w : Filling file shape arrivals slopes target table₀ table ends at f b) →
+  seen : {table₀ table ends : List ℕ} {at f b : ℕ}
+      (w : Filling file shape arrivals slopes target table₀ table ends at f b) →
       foundIn table at ≡ w .done
   seen {table = table} {at = at} w = ap pairsIn (part table (at * 2) ∙ w .is) ∙ pairs-flat (w .done)
 
@@ -166,7 +167,8 @@ module _ {file : List ℕ} {shape : Shape} {arrivals : List ℕ} (slopes : Slope
               absurd (none s (subst (λ (x : ℕ). A x s) e a) (omega arith))
 
       -- on to the node below, of which nothing is asked for above x, and before whose pairs v stand
-      pub filling-down : {tops : List ℕ} → firstRail shape slopes < f → Tops file shape arrivals slopes tops → (y x v : ℕ) →
+      pub filling-down : {tops : List ℕ} → firstRail shape slopes < f → Tops file shape arrivals slopes tops →
+          (y x v : ℕ) →
           y ≡ getD tops (nodeOf slopes (f - 1)) 0 → x ≡ min y target → f - firstRail shape slopes < length ends →
           v ≡ length (w .done) →
           Filling file shape arrivals slopes target table₀ table (set ends (f - firstRail shape slopes) v) at (f - 1)

@@ -40,9 +40,8 @@ use Rattle.pairs.proofs.Filling.{
   filling-ends,
 }
 
-pub record Finding (file : List ℕ) (shape : Shape) (arrivals : List ℕ) (slopes : Slopes) (target : ℕ) (table₀ table ends : List ℕ)
-    (at f : ℕ)
-    (marks : List ℕ) (low word bits : ℕ) : Type 0 where
+pub record Finding (file : List ℕ) (shape : Shape) (arrivals : List ℕ) (slopes : Slopes) (target : ℕ)
+    (table₀ table ends : List ℕ) (at f : ℕ) (marks : List ℕ) (low word bits : ℕ) : Type 0 where
   pub bound : ℕ
   pub filling : Filling file shape arrivals slopes target table₀ table ends at f bound
   pub scanning : Scanning (AskedAt file shape arrivals slopes target f) bound marks low word bits
@@ -108,7 +107,8 @@ module _ {file : List ℕ} {shape : Shape} {arrivals : List ℕ} (slopes : Slope
                   rw read
                   (scanning-fresh (AskedAt file shape arrivals slopes target (f - 1)) (x + 1) finding-clear
                   (subst
-                  (λ (n : ℕ). Adds marks (Within x (AsksAll (foundIn table at) file shape slopes target n)) marks′) e more)
+                  (λ (n : ℕ). Adds marks (Within x (AsksAll (foundIn table at) file shape slopes target n)) marks′) e
+                  more)
                   (filling-asks slopes given sloped target down x (omega (arith, down .bound)))
                   (λ t a l. filling-asked slopes given sloped target down x refl t a l) spans r);
             }

@@ -135,7 +135,8 @@ module _ (I : ℕ) (top : ℕ → ℕ) (outputs : List ℕ) (target : ℕ) where
       let here = subst (λ (x : ℕ). T (W k (h ∷ gs) x t)) (ap (λ (x : ℕ × Cell). x .0) q) u in
       let own = subst (λ (x : Cell). List·Memᴰ p (x .pins)) (ap (λ (x : ℕ × Cell). x .1) q) i in
       asked-first k h gs (t - p .delay) p own j
-      (subst (λ (x : ℕ). T (W (suc k) gs k x)) e (asked-stays k h gs k t (omega arith) (down (k, h) (List·Memᴰ·head refl)) here))
+      (subst (λ (x : ℕ). T (W (suc k) gs k x)) e
+      (asked-stays k h gs k t (omega arith) (down (k, h) (List·Memᴰ·head refl)) here))
   asked-pin k (h ∷ gs) down f g (List·Memᴰ·tail m) t u p i j =
       let l = numbered-from (suc k) gs f g m in
       asked-later k h gs (p .driver) (t - p .delay)

@@ -1,11 +1,10 @@
 -- Rails and their nodes, the rails of a gate as cells, and what these ask: a pin asks each rail of its driver, all of
--- which lie below the gate's. Laws: rail-node, rail-own, rails-from, rails-below, rails-under, node-from, node-below;
--- asking-has, asking-only; rail-number, rail-pin; rail-has, rail-only, rail-total; outputs-has, outputs-only; down-for.
--- Assumes nothing.
+-- which lie below the gate's. Laws: one, rail-own, rail-node, node-from, node-below, from-node, below-node,
+-- rails-under, rail-sum, rail-few, rail-up, rail-last; asking-has, asking-only; rail-number, rail-pin; rail-has,
+-- rail-only, rail-total; outputs-has, outputs-only; rail-below, down-for. Assumes nothing.
 use mathlib.Core.Path.{_≡_, refl, sym, ap, _∙_, subst}
 use mathlib.Core.Bool.{Bool, true, false}
 use mathlib.Core.List.{List, [], _∷_, map, List·Memᴰ, List·Memᴰ·head, List·Memᴰ·tail, List·Memᴰ·not-nil}
-use mathlib.Core.Logic.{_⊎_, inl, inr}
 use Prim.Native.Nat.{ℕ, suc, _+_, _*_, _/_, _≤_, _<_}
 use native.Mathlib.Omega.{arith}
 use native.Mathlib.Decide.{ℕ-discrete}
@@ -51,28 +50,17 @@ one (List·Memᴰ·tail m) = absurd (List·Memᴰ·not-nil m)
 -- a rail of a node is among its rails
 pub rail-own : (slopes : Slopes) (rail : ℕ) → List·Memᴰ rail (railsOf slopes (nodeOf slopes rail))
 rail-own alike rail = List·Memᴰ·head refl
-rail-own (apart falls) rail = go (decEq rail)
+rail-own (apart falls) rail = go (ℕ-discrete rail (rail / 2 * 2))
   where
-    decEq : (n : ℕ) → (n ≡ n / 2 * 2) ⊎ (n ≡ n / 2 * 2 + 1)
-    decEq n = pick (ℕ-discrete n (n / 2 * 2))
-      where
-        pick : Dec (n ≡ n / 2 * 2) → (n ≡ n / 2 * 2) ⊎ (n ≡ n / 2 * 2 + 1)
-        pick (yes e) = inl e
-        pick (no e) = inr (omega arith)
+    go : Dec (rail ≡ rail / 2 * 2) → List·Memᴰ rail (railsOf (apart falls) (rail / 2))
+    go (yes e) = List·Memᴰ·head e
+    go (no e) = let odd : rail ≡ rail / 2 * 2 + 1 = omega arith in List·Memᴰ·tail (List·Memᴰ·head odd)
 
-    go : (rail ≡ rail / 2 * 2) ⊎ (rail ≡ rail / 2 * 2 + 1) → List·Memᴰ rail (railsOf (apart falls) (rail / 2))
-    go (inl e) = List·Memᴰ·head e
-    go (inr e) = List·Memᴰ·tail (List·Memᴰ·head e)
-
-module _ (slopes : Slopes) where
-  -- a rail's node is the one whose rail it is
-  pub rail-node : (n rail : ℕ) → List·Memᴰ rail (railsOf slopes n) → nodeOf slopes rail ≡ n
-  rail-node = go slopes
-    where
-      go : (s : Slopes) (n rail : ℕ) → List·Memᴰ rail (railsOf s n) → nodeOf s rail ≡ n
-      go alike n rail m = one m
-      go (apart falls) n rail (List·Memᴰ·head e) = omega arith
-      go (apart falls) n rail (List·Memᴰ·tail m) = let e = one m in omega arith
+-- a rail's node is the one whose rail it is
+pub rail-node : (slopes : Slopes) (n rail : ℕ) → List·Memᴰ rail (railsOf slopes n) → nodeOf slopes rail ≡ n
+rail-node alike n rail m = one m
+rail-node (apart falls) n rail (List·Memᴰ·head e) = omega arith
+rail-node (apart falls) n rail (List·Memᴰ·tail m) = let e = one m in omega arith
 
 -- the rails of nodes from I on, and of those below N
 pub node-from : (slopes : Slopes) (I rail : ℕ) → railCount slopes I ≤ rail → I ≤ nodeOf slopes rail
@@ -169,7 +157,8 @@ pub rail-has : (slopes : Slopes) (k : ℕ) (gates : List Cell) (x : ℕ × Cell)
     List·Memᴰ (railCell slopes r) (numbered (railCount slopes k) (railCells slopes gates))
 rail-has alike k gates x m r i =
     subst (λ (y : Rail). List·Memᴰ {A = ℕ × Cell} (railCell alike y) (numbered k gates)) (sym (one i)) m
-rail-has (apart falls) k (g ∷ gs) x (List·Memᴰ·head e) r i = go (subst (λ (y : ℕ × Cell). List·Memᴰ r (railsAt (apart falls) y)) e i)
+rail-has (apart falls) k (g ∷ gs) x (List·Memᴰ·head e) r i =
+    go (subst (λ (y : ℕ × Cell). List·Memᴰ r (railsAt (apart falls) y)) e i)
   where
     go : List·Memᴰ r (railsAt (apart falls) (k, g)) →
         List·Memᴰ (railCell (apart falls) r) (numbered (k * 2) (railCells (apart falls) (g ∷ gs)))

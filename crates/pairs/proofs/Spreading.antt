@@ -1,6 +1,6 @@
 -- From two numbers a pair to three, in place, from the last pair down: pair k is read at 2k and stored at 3k, which no
--- pair still to be read has reached. Laws: three-stored; spreading-starts, spreading-more, spreading-ends; spread-single,
--- spread-apart, three-fit, spread-room. Assumes nothing.
+-- pair still to be read has reached. Laws: three-stored; spreading-starts, spreading-more, spreading-ends;
+-- spread-single, spread-apart, three-fit, spread-room. Assumes nothing.
 use mathlib.Core.Path.{_≡_, refl, sym, ap, ap₂, _∙_}
 use mathlib.Core.List.{List, [], _∷_, _++_}
 use Prim.Native.Nat.{ℕ, zero, suc, _+_, _*_, _-_, _/_, _%_, _<_, _≤_}

@@ -1,6 +1,6 @@
 -- One step of the least set, both ways: what is asked for is asked for by an output or by a pin of a pair that is known
 -- already, since a driver's rails stand below its gate's; and what these ask for is asked for, if it is a pair. Laws:
--- stepped, asked-of; facts-of, rail-few, rail-sum. Assumes nothing.
+-- stepped, asked-of; facts-of, down, outputs-high. Assumes nothing.
 use mathlib.Core.Path.{_≡_, refl, sym, ap, ap₂, subst, _∙_}
 use mathlib.Core.Bool.{true, false}
 use mathlib.Core.List.{List, [], _∷_, map, List·Memᴰ, List·Memᴰ·head, List·Memᴰ·tail}

@@ -51,7 +51,8 @@ slowOf (apart falls) p = max (p .delay) (fallOf falls p)
 
 -- one pin more, with its larger delay
 last-more : (slopes : Slopes) (time : ℕ → ℕ) (p : Pin) (ps : List Pin) (delay : ℕ) → delay ≡ slowOf slopes p →
-    last (readyAt time) (slowest slopes (p ∷ ps)) ≡ max (time (p .driver) + delay) (last (readyAt time) (slowest slopes ps))
+    last (readyAt time) (slowest slopes (p ∷ ps)) ≡ max (time (p .driver) + delay)
+    (last (readyAt time) (slowest slopes ps))
 last-more alike time p ps delay e = omega arith
 last-more (apart falls) time p ps delay e = omega arith
 
@@ -124,7 +125,8 @@ sloped-small shape (apart falls) s = s .1
 -- ---- all nodes
 
 -- the nodes before gate i have their tops
-pub record Topping (file : List ℕ) (shape : Shape) (arrivals : List ℕ) (slopes : Slopes) (tops : List ℕ) (i : ℕ) : Type 0 where
+pub record Topping (file : List ℕ) (shape : Shape) (arrivals : List ℕ) (slopes : Slopes) (tops : List ℕ) (i : ℕ) :
+    Type 0 where
   pub long : shape .inputs + shape .gates ≤ length tops
   pub is : (k : ℕ) → k < shape .inputs + i →
       getD tops k 0 ≡ topOf (circuitWith file shape arrivals slopes) k
@@ -161,7 +163,8 @@ module _ {file : List ℕ} {shape : Shape} {arrivals : List ℕ} (slopes : Slope
 
   -- when gate i's last pin is ready by the tops so far is its top
   topping-value : {tops : List ℕ} {i : ℕ} (r : ℕ) → Topping file shape arrivals slopes tops i → i < shape .gates →
-      r ≡ last (readyAt (λ node. getD (take (shape .inputs + i) tops) node 0)) (slowest slopes (cellAt file shape i .pins)) →
+      r ≡ last (readyAt (λ node. getD (take (shape .inputs + i) tops) node 0))
+      (slowest slopes (cellAt file shape i .pins)) →
       r ≡ topOf (circuitWith file shape arrivals slopes) (shape .inputs + i)
   topping-value {tops} {i} r b h e =
       let node = shape .inputs + i in
@@ -184,12 +187,14 @@ module _ {file : List ℕ} {shape : Shape} {arrivals : List ℕ} (slopes : Slope
 
   -- and is small
   pub topping-small : {tops : List ℕ} {i : ℕ} (r : ℕ) → Topping file shape arrivals slopes tops i → i < shape .gates →
-      r ≡ last (readyAt (λ node. getD (take (shape .inputs + i) tops) node 0)) (slowest slopes (cellAt file shape i .pins)) → r ≤ latest
+      r ≡ last (readyAt (λ node. getD (take (shape .inputs + i) tops) node 0))
+      (slowest slopes (cellAt file shape i .pins)) → r ≤ latest
   topping-small {tops} {i} r b h e =
       omega (arith, topping-value r b h e, tops-late (shape .inputs + i))
 
   pub topping-more : {tops : List ℕ} {i : ℕ} (r : ℕ) → Topping file shape arrivals slopes tops i → i < shape .gates →
-      r ≡ last (readyAt (λ node. getD (take (shape .inputs + i) tops) node 0)) (slowest slopes (cellAt file shape i .pins)) →
+      r ≡ last (readyAt (λ node. getD (take (shape .inputs + i) tops) node 0))
+      (slowest slopes (cellAt file shape i .pins)) →
       Topping file shape arrivals slopes (set tops (shape .inputs + i) r) (i + 1)
   topping-more {tops} {i} r b h e =
       record {
@@ -225,7 +230,8 @@ module _ {file : List ℕ} {shape : Shape} {arrivals : List ℕ} (slopes : Slope
       record { is = z ∙ ap₂ (λ (x : List ℕ) (y : ℕ). x ++ replicate (y - n) 0) all long }
 
   -- which begins with the tops
-  pub topped-tops : {room : ℕ} {tops : List ℕ} → Topped file shape arrivals slopes room tops → Tops file shape arrivals slopes tops
+  pub topped-tops : {room : ℕ} {tops : List ℕ} → Topped file shape arrivals slopes room tops →
+      Tops file shape arrivals slopes tops
   topped-tops {room} w =
       let n = shape .inputs + shape .gates in
       record {
@@ -242,7 +248,8 @@ module _ {file : List ℕ} {shape : Shape} {arrivals : List ℕ} (slopes : Slope
       let n = shape .inputs + shape .gates in
       let long = tops-length (circuitWith file shape arrivals slopes) arrives ∙ node-count file shape in
       ap (take (shape .inputs)) (w .is)
-      ∙ take-append-le (shape .inputs) (topsOf (circuitWith file shape arrivals slopes)) (replicate (room - n) 0) (omega arith)
+      ∙ take-append-le (shape .inputs) (topsOf (circuitWith file shape arrivals slopes)) (replicate (room - n) 0)
+      (omega arith)
       ∙ ap (λ (k : ℕ). take k (topsOf (circuitWith file shape arrivals slopes))) (sym (given .arrived .long))
       ∙ tops-begin (circuitWith file shape arrivals slopes)
 
@@ -263,5 +270,6 @@ module _ {file : List ℕ} {shape : Shape} {arrivals : List ℕ} (slopes : Slope
   -- a slice that begins with the tops is long enough
   pub tops-long : {tops : List ℕ} → Tops file shape arrivals slopes tops → shape .inputs + shape .gates ≤ length tops
   tops-long {tops} b =
-      let e = ap length (b .is) ∙ tops-length (circuitWith file shape arrivals slopes) arrives ∙ node-count file shape in
+      let e = ap length (b .is) ∙ tops-length (circuitWith file shape arrivals slopes) arrives ∙ node-count file shape
+      in
       omega (arith, length-take (shape .inputs + shape .gates) tops, e)

@@ -31,8 +31,8 @@ use Rattle.pairs.specs.Table.{
 }
 use Rattle.pairs.proofs.Asking.{In, asks-same, asks-starts, asks-more}
 
-pub record Walking (l : List (ℕ × ℕ)) (file : List ℕ) (shape : Shape) (slopes : Slopes) (target f top : ℕ) (links marks₀ marks : List ℕ)
-    (at : ℕ) : Type 0 where
+pub record Walking (l : List (ℕ × ℕ)) (file : List ℕ) (shape : Shape) (slopes : Slopes) (target f top : ℕ)
+    (links marks₀ marks : List ℕ) (at : ℕ) : Type 0 where
   pub done : List (ℕ × ℕ)
   pub rest : List (ℕ × ℕ)
   pub chain : Chain links at rest
@@ -43,8 +43,8 @@ pub record Walking (l : List (ℕ × ℕ)) (file : List ℕ) (shape : Shape) (sl
   pub all : (x : ℕ × ℕ) → Drives file shape (shape .gates) f x → List·Memᴰ x done ⊎ List·Memᴰ x rest
 
 -- a link of the chain, and the walk after its pin is marked
-pub record Here (l : List (ℕ × ℕ)) (file : List ℕ) (shape : Shape) (slopes : Slopes) (target f top : ℕ) (links marks₀ marks : List ℕ)
-    (at : ℕ) : Type 0 where
+pub record Here (l : List (ℕ × ℕ)) (file : List ℕ) (shape : Shape) (slopes : Slopes) (target f top : ℕ)
+    (links marks₀ marks : List ℕ) (at : ℕ) : Type 0 where
   pub pin : ℕ × ℕ
   pub next : ℕ
   pub link : Link links at next pin
@@ -52,7 +52,8 @@ pub record Here (l : List (ℕ × ℕ)) (file : List ℕ) (shape : Shape) (slope
   pub walked : (after : List ℕ) → Adds marks (Within top (LinkAsks l (askers file shape slopes pin))) after →
       Walking l file shape slopes target f top links marks₀ after next
 
-module _ {l : List (ℕ × ℕ)} {file : List ℕ} {shape : Shape} {slopes : Slopes} {target f top : ℕ} {links marks₀ : List ℕ} where
+module _ {l : List (ℕ × ℕ)} {file : List ℕ} {shape : Shape} {slopes : Slopes} {target f top : ℕ}
+    {links marks₀ : List ℕ} where
   pub walking-starts : {n at : ℕ} → Holding (Drives file shape (shape .gates) f) links n at →
       Walking l file shape slopes target f top links marks₀ marks₀ at
   walking-starts w =
@@ -67,7 +68,8 @@ module _ {l : List (ℕ × ℕ)} {file : List ℕ} {shape : Shape} {slopes : Slo
       }
 
   -- a link is left, of a pin that f drives
-  pub walking-here : {marks : List ℕ} {at : ℕ} → Walking l file shape slopes target f top links marks₀ marks at → 0 < at →
+  pub walking-here : {marks : List ℕ} {at : ℕ} → Walking l file shape slopes target f top links marks₀ marks at →
+      0 < at →
       Here l file shape slopes target f top links marks₀ marks at
   walking-here {marks} {at} w h = go (w .rest) (w .chain) (w .left) (w .all)
     where

@@ -37,11 +37,13 @@ kept-full : (l : List (ℕ × ℕ)) (room : ℕ) (t : List ℕ) (r : Filled) →
     room < length l
 kept-full l room t r h e = rw e at h
 
-pub held-count : (slopes : Slopes) (l : List (ℕ × ℕ)) (room : ℕ) (t : List ℕ) (r : Listed) (n : ℕ) → Held slopes l room t r → r ≡ Count n →
+pub held-count : (slopes : Slopes) (l : List (ℕ × ℕ)) (room : ℕ) (t : List ℕ) (r : Listed) (n : ℕ) →
+    Held slopes l room t r → r ≡ Count n →
     (n ≡ length l) × (n ≤ tableHolds (pairNumbers slopes) room) × (t ≡ flatPairs l ++ replicate (room - n * 2) 0)
 held-count slopes l room t r n h e = rw e at h
 
-pub held-too-many : (slopes : Slopes) (l : List (ℕ × ℕ)) (room : ℕ) (t : List ℕ) (r : Listed) → Held slopes l room t r → r ≡ TooMany →
+pub held-too-many : (slopes : Slopes) (l : List (ℕ × ℕ)) (room : ℕ) (t : List ℕ) (r : Listed) →
+    Held slopes l room t r → r ≡ TooMany →
     (tableHolds (pairNumbers slopes) room < length l) × (t ≡ replicate room 0)
 held-too-many slopes l room t r h e = rw e at h
 
@@ -109,7 +111,8 @@ module _ (slopes : Slopes) (l : List (ℕ × ℕ)) (table filled : List ℕ) (ca
 -- ---- what the promise leaves
 
 -- one answer and one content
-pub held-unique : (slopes : Slopes) (l : List (ℕ × ℕ)) (room : ℕ) (t u : List ℕ) (r s : Listed) → Held slopes l room t r → Held slopes l room u s →
+pub held-unique : (slopes : Slopes) (l : List (ℕ × ℕ)) (room : ℕ) (t u : List ℕ) (r s : Listed) →
+    Held slopes l room t r → Held slopes l room u s →
     (t ≡ u) × (r ≡ s)
 held-unique slopes l room t u (Count n) (Count m) h k =
     let e : n ≡ m = h .0 ∙ sym (k .0) in

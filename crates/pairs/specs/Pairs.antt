@@ -10,8 +10,8 @@ use Rattle.netlist.specs.Netlist.{Cell, Pin, Circuit, Slopes, alike, apart}
 use Rattle.settle.specs.Settling.{topOf}
 use Rattle.pairs.specs.Rails.{railCount, nodeOf, railCells, railOutputs}
 
--- with I inputs' rails and the rails' tops, a rail's being late at t is open (rule F2): t is neither 0 nor above the top,
--- and the rail is a gate's, since an input is late up to its top and not beyond
+-- with I inputs' rails and the rails' tops, a rail's being late at t is open (rule F2): t is neither 0 nor above the
+-- top, and the rail is a gate's, since an input is late up to its top and not beyond
 abbrev pub isPair : ℕ → (ℕ → ℕ) → ℕ → ℕ → Bool
 isPair I top rail t = not (ltb rail I) && (ltb 0 t && leb t (top rail))
 

@@ -25,8 +25,8 @@ nodeOf (apart falls) rail = rail / 2
 
 -- ---- the rails of a gate, with what each of them goes by
 
--- its number, its node, the final value that it speaks of (none where there is one rail a node), and the gate's kind and
--- pins, with the delays for that value
+-- its number, its node, the final value that it speaks of (none where there is one rail a node), and the gate's kind
+-- and pins, with the delays for that value
 pub record Rail : Type 0 where
   pub number : ℕ
   pub node : ℕ
@@ -61,7 +61,8 @@ abbrev pub asking : Slopes → List Pin → List Pin
 asking alike ps = ps
 asking (apart falls) ps =
     concatMap
-    (λ p. map (λ rail. record { driver = rail; delay = p .delay; number = p .number }) (railsOf (apart falls) (p .driver)))
+    (λ p. map (λ rail. record { driver = rail; delay = p .delay; number = p .number })
+    (railsOf (apart falls) (p .driver)))
     ps
 
 -- a gate's rails, each as a cell whose pins are what it asks

@@ -204,7 +204,8 @@ pub record EndsAt (l : List (ℕ × ℕ)) (rail : ℕ) (ends : List ℕ) (number
   pub few : getD ends number 0 ≤ length l
   pub from : Precede l (rail * 4294967296) (length l - getD ends number 0)
 
--- for each rail from `low` on, and for the one after the last; the rails of gates are those from `first` to before `last`
+-- for each rail from `low` on, and for the one after the last; the rails of gates are those from `first` to before
+-- `last`
 pub record Ended (l : List (ℕ × ℕ)) (first last : ℕ) (ends : List ℕ) (low : ℕ) : Type 0 where
   pub of : (number : ℕ) → low ≤ first + number → first + number ≤ last → EndsAt l (first + number) ends number
 

@@ -1,6 +1,7 @@
-// The tops of all nodes, and the pairs of a target in a lent table. The table is filled from its end, one node after
-// the other from the last: what is asked of a node is marked, and read from the highest mark down, so that nothing is
-// inserted or sorted. Assumes nothing.
+// The tops of all nodes, and the pairs of a target in a lent table, each a rail and a time: a node has one rail, or two
+// where the delays of rise and fall stand apart. The table is filled from its end, one rail after the other from the
+// last: what is asked of a rail is marked, and read from the highest mark down, so that nothing is inserted or sorted.
+// Assumes nothing.
 use netlist::Form;
 use netlist::Shape;
 ghost use mathlib.Core.Path.{_≡_};
@@ -747,8 +748,8 @@ fn holds(form: Form, numbers: usize) -> usize
     }
 }
 
-// The pairs of a target by rail rising, then time rising, two numbers each, and zeros after them; or, where they are more
-// than the table holds, zeros. The arrivals are the inputs' tops.
+// The pairs of a target by rail rising, then time rising, two numbers each, and zeros after them; or, where they are
+// more than the table holds, zeros. The arrivals are the inputs' tops.
 pub fn table(
     file: &[u8],
     shape: Shape,

@@ -1,6 +1,6 @@
--- A list of fall delays that has each pin's own delay gives the single form's times and tops: the delays for either final
--- value are the pin's own, so each gate's step is the same. Laws: equal-times, equal-tops, equal-circuit, equal-lists,
--- equal-evaluation. Assumes nothing.
+-- A list of fall delays that has each pin's own delay gives the single form's times and tops: the delays for either
+-- final value are the pin's own, so each gate's step is the same. Laws: equal-times, equal-tops and equal-circuit of a
+-- netlist; equal-lists and equal-evaluation of an accepted file. Assumes nothing.
 use mathlib.Core.Path.{_≡_, sym, ap, ap₂, _∙_, subst}
 use mathlib.Core.Bool.{Bool}
 use mathlib.Core.List.{List, _++_, map, List·Memᴰ}

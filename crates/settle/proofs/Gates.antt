@@ -97,7 +97,8 @@ net-arrives file {shape} a = a .long ∙ sym (net-inputs file shape)
 pub tops-early : {file : List ℕ} {shape : Shape} {arrivals : List ℕ} → Given file shape arrivals → (n : ℕ) →
     topOf (circuitAt file shape arrivals) n ≤ latest
 tops-early {file} {shape} {arrivals} g n =
-    tops-small (circuitAt file shape arrivals) (g .holds .valid) (net-arrives file (g .arrived)) tt (g .arrived .early) n
+    tops-small (circuitAt file shape arrivals) (g .holds .valid) (net-arrives file (g .arrived)) tt (g .arrived .early)
+    n
 
 module _ {file : List ℕ} {shape : Shape} {arrivals : List ℕ} (h : Holds file shape) (at : Arrived shape arrivals)
     (slopes : Slopes) (small : Small slopes) (vector : List Bool) (long : length vector ≡ shape .inputs) where
@@ -186,7 +187,8 @@ module _ {file : List ℕ} {shape : Shape} {arrivals : List ℕ} (h : Holds file
         gateValue-cong (pinValue doneValues) final (cell .kind) (cell .pins) (λ p i. pin-value p (p, i, refl))
         ∙ sym (facts .value-fixed _ _ member)
         in
-        ap (λ (g : Gate). slopedSignal slopes doneValues doneTimes (g .kind) (pinsFrom file shape (g .first) (g .count)))
+        ap
+        (λ (g : Gate). slopedSignal slopes doneValues doneTimes (g .kind) (pinsFrom file shape (g .first) (g .count)))
         e
         ∙ ap (λ (v : Bool). gateSignal doneValues doneTimes (cell .kind) (pinsFor slopes v (cell .pins))) ends
         ∙ ap₂ (λ (v : Bool) (t : ℕ). record { value = v; at = t })
@@ -210,7 +212,8 @@ module _ {file : List ℕ} {shape : Shape} {arrivals : List ℕ} (h : Holds file
         length-take-le (shape .inputs + number) (allValues file shape vector) (omega (arith, all-values-length))
         in
         let b : length doneTimes ≡ shape .inputs + number =
-        length-take-le (shape .inputs + number) (allTimes file shape arrivals slopes vector) (omega (arith, all-times-length))
+        length-take-le (shape .inputs + number) (allTimes file shape arrivals slopes vector)
+        (omega (arith, all-times-length))
         in
         record {
           tables = h .tables;
@@ -236,8 +239,8 @@ pub record Gating (file : List ℕ) (shape : Shape) (slopes : Slopes) (values₀
   pub values-done :
       Filled (allValues file shape (bits (take (shape .inputs) values₀))) values₀ values (shape .inputs + number)
   pub times-done :
-      Filled (allTimes file shape (take (shape .inputs) times₀) slopes (bits (take (shape .inputs) values₀))) times₀ times
-      (shape .inputs + number)
+      Filled (allTimes file shape (take (shape .inputs) times₀) slopes (bits (take (shape .inputs) values₀))) times₀
+      times (shape .inputs + number)
 
 module _ {file : List ℕ} {shape : Shape} {values₀ times₀ : List ℕ} (h : Holds file shape)
     (b : Begun shape values₀ times₀) (slopes : Slopes) (small : Small slopes) where
@@ -297,8 +300,8 @@ module _ {file : List ℕ} {shape : Shape} {values₀ times₀ : List ℕ} (h : 
       -- one gate more
       pub gating-more : (signal : Signal) (stored : ℕ) →
           signal
-          ≡ slopedSignal slopes (take (shape .inputs + number) values) (take (shape .inputs + number) times) (gate .kind)
-          (pinsFrom file shape (gate .first) (gate .count)) →
+          ≡ slopedSignal slopes (take (shape .inputs + number) values) (take (shape .inputs + number) times)
+          (gate .kind) (pinsFrom file shape (gate .first) (gate .count)) →
           stored ≡ bit (signal .value) →
           Gating file shape slopes values₀ times₀
           (set values (shape .inputs + number) stored)
@@ -310,7 +313,8 @@ module _ {file : List ℕ} {shape : Shape} {values₀ times₀ : List ℕ} (h : 
           let t = all-times-length h (b .arrived) slopes small vector vector-is in
           let is =
           s
-          ∙ ap₂ (λ (x y : List ℕ). slopedSignal slopes x y (gate .kind) (pinsFrom file shape (gate .first) (gate .count)))
+          ∙ ap₂
+          (λ (x y : List ℕ). slopedSignal slopes x y (gate .kind) (pinsFrom file shape (gate .first) (gate .count)))
           (filled-done (g .values-done))
           (filled-done (g .times-done))
           ∙ gate-settled h (b .arrived) slopes small vector vector-is number within gate e
@@ -336,7 +340,8 @@ module _ {file : List ℕ} {shape : Shape} {values₀ times₀ : List ℕ} (h : 
     gating-ends l =
         record {
           values-are =
-              filled-ends (g .values-done) (omega (arith, all-values-length h (b .arrived) slopes small vector vector-is))
+              filled-ends (g .values-done)
+              (omega (arith, all-values-length h (b .arrived) slopes small vector vector-is))
               ∙ ap (λ (n : ℕ). allValues file shape vector ++ drop n values₀) (all-done l);
           times-are =
               filled-ends (g .times-done) (omega (arith, all-times-length h (b .arrived) slopes small vector vector-is))

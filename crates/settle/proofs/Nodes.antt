@@ -139,7 +139,8 @@ input-at circuit vector e n h =
 pub input-top : (circuit : Circuit) → Arrives circuit → (n : ℕ) → n < circuit .net .inputs →
     topOf circuit n ≡ getD (circuit .arrivals) n 0
 unfolding topsOf
-input-top circuit e n h = grow-keeps 0 (topStep (circuit .slopes)) (circuit .arrivals) (circuit .net .gates) n (omega arith)
+input-top circuit e n h =
+    grow-keeps 0 (topStep (circuit .slopes)) (circuit .arrivals) (circuit .net .gates) n (omega arith)
 
 -- a node is an input or a gate
 pub input-or-gate : (net : Netlist) (n : ℕ) → n < nodeCount net →
@@ -236,14 +237,15 @@ last-slowest time top (apart falls) false (p ∷ ps) r =
     let b = last-slowest time top (apart falls) false ps (λ q i. r q (List·Memᴰ·tail i)) in
     omega arith
 
--- two tests of a node that agree on a gate's drivers are ready at the same time at each of its pins, whatever its delays
+-- two times of nodes that agree on a gate's drivers make each of its pins ready at the same time, whatever its delays
 ready-same : (f h : ℕ → ℕ) (ps : List Pin) → ((p : Pin) → List·Memᴰ p ps → f (p .driver) ≡ h (p .driver)) → (q : Pin) →
     (p : Pin) × List·Memᴰ p ps × (q .driver ≡ p .driver) × (q .delay ≤ max (p .delay) 999) →
     readyAt f q ≡ readyAt h q
 ready-same f h ps same q w =
     ap (λ t. t + q .delay) (ap f (w .2) ∙ same (w .0) (w .1) ∙ ap h (sym (w .2)))
 
-module _ (circuit : Circuit) (v : T (valid (circuit .net))) (e : Arrives circuit) (small : Small (circuit .slopes)) where
+module _ (circuit : Circuit) (v : T (valid (circuit .net))) (e : Arrives circuit)
+    (small : Small (circuit .slopes)) where
   -- a gate's top, from its drivers' tops
   top-fixed : (n : ℕ) (cell : Cell) → List·Memᴰ (n, cell) (nodes (circuit .net)) →
       topOf circuit n ≡ last (readyAt (topOf circuit)) (slowest (circuit .slopes) (cell .pins))

@@ -1,7 +1,8 @@
 -- A gate that goes by the delays for its own final value: whatever their delays, its pins have the same values, so it
--- ends where it ends; a signal that ends where its pins' delays say is the gate's; and a simple gate's one pass, in which
--- each pin has the delay that it has if it counts, gives that signal. Laws: gateValue-map, pins-for-value, signal-for, by-end,
--- apart-controlled, apart-free, apart-parity, apart-mux-one, apart-mux-zero, sloped-small. Assumes nothing.
+-- ends where it ends; a signal that pins with the delays for one value give, and that ends at this value, is the
+-- gate's; and so is what a simple gate's one pass gives, in which each pin has the delay that it has if it counts.
+-- Laws: sloped-small, gateValue-map, pins-for-value, signal-for, by-end; apart-pin, apart-controlled, apart-free,
+-- apart-parity, apart-mux-one, apart-mux-zero. Assumes nothing.
 use mathlib.Core.Path.{_≡_, refl, sym, ap, ap₂, _∙_}
 use mathlib.Core.Bool.{Bool, true, false, not, _||_, Bool·beq, cond}
 use mathlib.Core.List.{List, [], _∷_, map}
@@ -223,33 +224,38 @@ module _ (values times falls : List ℕ) where
     abbrev for : Pin → Pin
     for = pinFor falls ends
 
-    pub apart-parity : (equal : Bool) (p q : Pin) →
-        ends ≡ Bool·beq equal (Bool·beq (pinValue values p) (pinValue values q)) →
+    -- the two values are read before
+    pub apart-parity : (equal : Bool) (p q : Pin) {x y : Bool} → x ≡ pinValue values p → y ≡ pinValue values q →
+        ends ≡ Bool·beq equal (Bool·beq x y) →
         record { value = ends; at = max (pinReady times (for p)) (pinReady times (for q)) }
         ≡ slopedSignal (apart falls) values times (Parity equal) (p ∷ q ∷ [])
-    apart-parity equal p q e =
+    apart-parity equal p q u v e =
         by-end ends (Parity equal) (p ∷ q ∷ [])
         (ap (λ (v : Bool). record { value = v; at = max (pinReady times (for p)) (pinReady times (for q)) })
         (e
-        ∙ sym
-        (ap₂ (λ (x y : Bool). Bool·beq equal (Bool·beq x y)) (pin-for-value ends p) (pin-for-value ends q)))
+        ∙ ap₂ (λ (x y : Bool). Bool·beq equal (Bool·beq x y))
+        (u ∙ sym (pin-for-value ends p))
+        (v ∙ sym (pin-for-value ends q)))
         ∙ parity-gate values times equal (for p) (for q))
         refl
 
-    pub apart-mux-one : (select a b : Pin) → pinValue values select ≡ true → ends ≡ pinValue values b →
-        chosenSignal (pinReady times (for select)) (pinSignal values times (for b)) (pinSignal values times (for a))
-        ≡ slopedSignal (apart falls) values times Mux (select ∷ a ∷ b ∷ [])
-    unfolding chosenSignal pinSignal
-    apart-mux-one select a b chosen e =
-        by-end ends Mux (select ∷ a ∷ b ∷ [])
-        (mux-one values times (for select) (for a) (for b) (pin-for-value ends select ∙ chosen))
-        (pin-for-value ends b ∙ sym e)
+    -- the values of select, a and b are read before
+    module _ (select a b : Pin) {chooses x y : Bool} (s : chooses ≡ pinValue values select)
+        (u : x ≡ pinValue values a) (v : y ≡ pinValue values b) (e : ends ≡ cond chooses y x) where
+      pub apart-mux-one : chooses ≡ true →
+          chosenSignal (pinReady times (for select)) (pinSignal values times (for b)) (pinSignal values times (for a))
+          ≡ slopedSignal (apart falls) values times Mux (select ∷ a ∷ b ∷ [])
+      unfolding chosenSignal pinSignal
+      apart-mux-one one =
+          by-end ends Mux (select ∷ a ∷ b ∷ [])
+          (mux-one values times (for select) (for a) (for b) (pin-for-value ends select ∙ sym s ∙ one))
+          (pin-for-value ends b ∙ sym (e ∙ ap (λ (t : Bool). cond t y x) one ∙ v))
 
-    pub apart-mux-zero : (select a b : Pin) → pinValue values select ≡ false → ends ≡ pinValue values a →
-        chosenSignal (pinReady times (for select)) (pinSignal values times (for a)) (pinSignal values times (for b))
-        ≡ slopedSignal (apart falls) values times Mux (select ∷ a ∷ b ∷ [])
-    unfolding chosenSignal pinSignal
-    apart-mux-zero select a b chosen e =
-        by-end ends Mux (select ∷ a ∷ b ∷ [])
-        (mux-zero values times (for select) (for a) (for b) (pin-for-value ends select ∙ chosen))
-        (pin-for-value ends a ∙ sym e)
+      pub apart-mux-zero : chooses ≡ false →
+          chosenSignal (pinReady times (for select)) (pinSignal values times (for a)) (pinSignal values times (for b))
+          ≡ slopedSignal (apart falls) values times Mux (select ∷ a ∷ b ∷ [])
+      unfolding chosenSignal pinSignal
+      apart-mux-zero none =
+          by-end ends Mux (select ∷ a ∷ b ∷ [])
+          (mux-zero values times (for select) (for a) (for b) (pin-for-value ends select ∙ sym s ∙ none))
+          (pin-for-value ends a ∙ sym (e ∙ ap (λ (t : Bool). cond t y x) none ∙ u))

@@ -146,7 +146,8 @@ zeroed whole before now after n room w r l e f =
 
 -- all nodes, the circuit's time and zeros are the settled evaluation
 pub settled-is : {file : List ℕ} {shape : Shape} {arrivals : List ℕ} {slopes : Slopes}
-    {vector values₀ times₀ values times : List ℕ} → Given file shape arrivals → Sloped shape slopes → Usable shape vector (length values₀) (length times₀) →
+    {vector values₀ times₀ values times : List ℕ} → Given file shape arrivals → Sloped shape slopes →
+    Usable shape vector (length values₀) (length times₀) →
     Done file shape arrivals slopes (bits vector) values₀ times₀ values times →
     (time : ℕ) (valuesEnd timesEnd : List ℕ) →
     time ≡ last (λ node. getD times node 0) (netlistAt file shape .outputs) →
@@ -169,13 +170,14 @@ settled-is {file} {shape} {arrivals} {slopes} {vector} {values₀} {times₀} {v
           ap At
           (t
           ∙ ap (λ (l : List ℕ). last (λ node. getD l node 0) (netlistAt file shape .outputs)) (d .times-are)
-          ∙ circuit-is (given .holds) arrivals slopes (bits vector) (drop (shape .inputs + shape .gates) times₀) t-long);
+          ∙ circuit-is (given .holds) arrivals slopes (bits vector) (drop (shape .inputs + shape .gates) times₀)
+          t-long);
       values-are =
           zeroed (allValues file shape (bits vector)) values₀ values valuesEnd _ _ v-long refl (u .values-room)
           (d .values-are) v
           ∙ ap (λ (n : ℕ). allValues file shape (bits vector) ++ replicate (length values₀ - n) 0) nodes;
       times-are =
-          zeroed (allTimes file shape arrivals slopes (bits vector)) times₀ times timesEnd _ _ t-long refl (u .times-room)
-          (d .times-are) w
+          zeroed (allTimes file shape arrivals slopes (bits vector)) times₀ times timesEnd _ _ t-long refl
+          (u .times-room) (d .times-are) w
           ∙ ap (λ (n : ℕ). allTimes file shape arrivals slopes (bits vector) ++ replicate (length times₀ - n) 0) nodes;
     }

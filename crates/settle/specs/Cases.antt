@@ -111,7 +111,9 @@ lateCases =
 
 -- the evaluation of a case
 abbrev pub run : Case → Evaluation
-run c = evaluation (c .file) (c .arrivals) (c .slopes) (c .vector) (length (c .expected .values)) (length (c .expected .times))
+run c =
+    evaluation (c .file) (c .arrivals) (c .slopes) (c .vector) (length (c .expected .values))
+    (length (c .expected .times))
 
 -- each case is evaluated as expected
 pub cases-hold : map run cases ≡ map (λ c. c .expected) cases

@@ -117,8 +117,8 @@ timeOf circuit vector node = getD (timesOf circuit vector) node 0
 unfoldable pub circuitTime : Circuit → List Bool → ℕ
 circuitTime circuit vector = last (timeOf circuit vector) (circuit .net .outputs)
 
--- the tops of all nodes (rule S7): an input's is its arrival, a gate's the largest of a driver's top plus the delay, the
--- larger one where there are two
+-- the tops of all nodes (rule S7): an input's is its arrival, a gate's the largest of a driver's top plus the delay,
+-- the larger one where there are two
 unfoldable pub topsOf : Circuit → List ℕ
 topsOf circuit =
     grow 0 (λ g top. last (readyAt top) (slowest (circuit .slopes) (g .pins))) (circuit .arrivals)

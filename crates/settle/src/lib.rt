@@ -1,4 +1,5 @@
-// Floating mode by controlling values: every node's final value and settling time. Assumes nothing.
+// Floating mode by controlling values: every node's final value and settling time, with one delay a pin or with one for
+// each final value of its gate. Assumes nothing.
 use netlist::Form;
 use netlist::Gate;
 use netlist::Kind;
@@ -622,7 +623,7 @@ pub fn evaluate_given(
     }
 }
 
-// The same in the single form.
+// The same in the single form, which reads no list of delays: any list may stand in for it.
 pub fn evaluate_accepted(
     file: &[u8],
     shape: Shape,

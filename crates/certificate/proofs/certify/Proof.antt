@@ -13,8 +13,8 @@ use Rattle.certificate.proofs.Steps.{
 use Rattle.certificate.proofs.certify.Statement.{statement}
 use Rattle.certificate.proofs.certify.Tie as tie
 
-evaluate-accepted-requires : tie.Need-evaluate-accepted-requires
-evaluate-accepted-requires c κs = search needs
+evaluate-given-requires : tie.Need-evaluate-given-requires
+evaluate-given-requires c κs = search needs
 
 enum-known-settled : tie.Need-enum-known-settled
 enum-known-settled c = search needs
@@ -26,9 +26,9 @@ add-refutes : tie.Need-add-refutes
 add-refutes c =
     let told = c .before .before in
     let call = told .before .before .before .before .before .before in
-    let start = call .before .before .before .before .before .before .before .before .before .before in
-    let e = call .evaluate-accepted .ensures .answer-is in
-    let h = time-small _ _ _ (start .pre) e (told .settled2 .given .1) in
+    let start = call .before .before .before .before .before .before .before .before .before .before .before in
+    let e = call .evaluate-given .ensures .answer-is in
+    let h = time-small _ _ _ _ (start .pre .0) (start .pre .1) e (told .settled2 .given .1) in
     omega (arith, c .if1 .taken)
 
 refutes-requires : tie.Need-refutes-requires
@@ -54,7 +54,7 @@ returns c =
     let call = c .before .before .before .before .before in
     let at = call .before .before .before .before in
     let told = at .before .before in
-    let e = told .before .before .before .before .before .before .evaluate-accepted .ensures in
+    let e = told .before .before .before .before .before .before .evaluate-given .ensures in
     certified-tested (e .answer-is) (told .settled2 .given .1) (at .if1 .taken) (e .values-are) (e .times-are)
     (same-length c) (same-length-2 c) (add-one _) (call .refutes .ensures)
 
@@ -67,7 +67,7 @@ same-length-7 c = search needs
 returns-2 : tie.Need-returns-2
 returns-2 c =
     let told = c .before in
-    let e = told .before .before .before .before .before .before .evaluate-accepted .ensures in
+    let e = told .before .before .before .before .before .before .evaluate-given .ensures in
     certified-unsettled (e .answer-is) (told .settled .given .1) (same-length-6 c) (same-length-7 c) refl
     refl refl
 
@@ -80,7 +80,7 @@ same-length-9 c = search needs
 returns-3 : tie.Need-returns-3
 returns-3 c =
     let told = c .before .before in
-    let e = told .before .before .before .before .before .before .evaluate-accepted .ensures in
+    let e = told .before .before .before .before .before .before .evaluate-given .ensures in
     certified-late (e .answer-is) (told .settled2 .given .1) (c .if1 .left) (same-length-8 c)
     (same-length-9 c) refl refl refl
 
@@ -88,7 +88,7 @@ pub certify-spec : {M : Type 1} → statement M
 certify-spec =
     tie.close
     (tie.spec
-    evaluate-accepted-requires
+    evaluate-given-requires
     enum-known-settled
     enum-known-settled-2
     add-refutes

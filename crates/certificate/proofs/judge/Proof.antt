@@ -1,11 +1,12 @@
 -- `certificate::judge` meets its contract: a refused file is the judgement's refusal, and of an accepted one the
 -- certificate decides; and the promise implies that an accepted delay is the largest settling time. Assumes nothing.
-use mathlib.Core.Path.{_≡_, sym, _∙_}
+use mathlib.Core.Path.{_≡_, refl, sym, _∙_}
 use borrow.Author.Needs.{needs}
+use Rattle.netlist.specs.Netlist.{alike}
 use Rattle.netlist.specs.Open.{openCircuitOf}
 use Rattle.netlist.proofs.Calls.{accepted, opened-both}
 use Rattle.certificate.proofs.Granted.{judges-largest}
-use Rattle.certificate.proofs.Steps.{judges-unopened, judges-refused, judges-accepted}
+use Rattle.certificate.proofs.Steps.{judges-unopened, judges-given}
 use Rattle.certificate.proofs.judge.Statement.{statement}
 use Rattle.certificate.proofs.judge.Tie as tie
 
@@ -34,19 +35,10 @@ refuse-requires c κs = search needs
 enum-known-opened-2 : tie.Need-enum-known-opened-2
 enum-known-opened-2 c = search needs
 
-certify-requires : tie.Need-certify-requires
-certify-requires c κs =
+conclude-requires : tie.Need-conclude-requires
+conclude-requires c κs =
     let told = c .before .before .before .before .before .before in
-    accepted _ _ (sym (asked (told .before .before)) ∙ told .opened2 .given .1)
-
-enum-known-checked : tie.Need-enum-known-checked
-enum-known-checked c = search needs
-
-refuse-requires-2 : tie.Need-refuse-requires-2
-refuse-requires-2 c κs = search needs
-
-enum-told : tie.Need-enum-told
-enum-told c = search needs
+    (accepted _ _ (sym (asked (told .before .before)) ∙ told .opened2 .given .1), tt)
 
 same-length : tie.Need-same-length
 same-length c = search needs
@@ -68,7 +60,8 @@ returns c =
     let refusing = c .before .before .before .before .before .before .before .before .before in
     let told = refusing .before .before .before .before .before .before .before in
     let j =
-    judges-unopened (asked (told .before .before)) (told .opened .given .1) (refusing .refuse .ensures)
+    judges-unopened {slopes = alike} (sym (asked (told .before .before)) ∙ told .opened .given .1)
+    (refusing .refuse .ensures)
     in
     (j, judges-largest j)
 
@@ -89,38 +82,11 @@ same-length-10 c = search needs
 
 returns-2 : tie.Need-returns-2
 returns-2 c =
-    let refusing = c .before .before .before .before .before .before .before .before .before in
-    let looked = refusing .before .before .before .before .before .before .before in
-    let call = looked .before .before .before .before .before .before .before .before .before .before .before in
+    let call = c .before .before .before .before .before .before .before .before .before in
     let told = call .before .before .before .before .before .before .before in
     let j =
-    judges-refused (asked (told .before .before)) (told .opened2 .given .1) (call .certify .ensures)
-    (looked .checked .given .1) (refusing .refuse2 .ensures)
-    in
-    (j, judges-largest j)
-
-same-length-11 : tie.Need-same-length-11
-same-length-11 c = search needs
-
-same-length-12 : tie.Need-same-length-12
-same-length-12 c = search needs
-
-same-length-13 : tie.Need-same-length-13
-same-length-13 c = search needs
-
-same-length-14 : tie.Need-same-length-14
-same-length-14 c = search needs
-
-same-length-15 : tie.Need-same-length-15
-same-length-15 c = search needs
-
-returns-3 : tie.Need-returns-3
-returns-3 c =
-    let call = c .before .before .before .before .before .before .before .before .before .before .before in
-    let told = call .before .before .before .before .before .before .before in
-    let j =
-    judges-accepted (asked (told .before .before)) (told .opened2 .given .1) (call .certify .ensures)
-    (c .enum-told .given .1)
+    judges-given {slopes = alike} (sym (asked (told .before .before)) ∙ told .opened2 .given .1) refl
+    (call .conclude .ensures)
     in
     (j, judges-largest j)
 
@@ -133,10 +99,7 @@ judge-spec =
     enum-known-opened
     refuse-requires
     enum-known-opened-2
-    certify-requires
-    enum-known-checked
-    refuse-requires-2
-    enum-told
+    conclude-requires
     same-length
     same-length-2
     same-length-3
@@ -148,10 +111,4 @@ judge-spec =
     same-length-8
     same-length-9
     same-length-10
-    returns-2
-    same-length-11
-    same-length-12
-    same-length-13
-    same-length-14
-    same-length-15
-    returns-3)
+    returns-2)

@@ -1,5 +1,5 @@
--- `certificate::refutes` meets its contract: a building that answers with counts has left its numbers, well
--- formula-front, in the front of the formula slice, and the test is of that front. Assumes nothing.
+-- `certificate::refutes` meets its contract: a building that answers with counts has left its numbers, well formed, in
+-- the front of the formula slice, and the test is of that front. Assumes nothing.
 use mathlib.Core.Path.{refl}
 use borrow.Author.Needs.{needs}
 use Rattle.certificate.proofs.Steps.{formula-front, refutes-refused, refutes-tested}
@@ -19,25 +19,25 @@ slice-reshare-prefix-test : tie.Need-slice-reshare-prefix-test
 slice-reshare-prefix-test c =
     let told = c .before in
     let call = told .before .before .before .before .before in
-    let start = call .before .before .before .before .before .before .before in
+    let start = call .before .before .before .before .before .before .before .before in
     let e = call .build-from .ensures in
-    formula-front _ _ (start .pre .holds .valid) (e .answer-is) (e .formula-is) (told .built2 .given .1) .fit
+    formula-front _ _ (start .pre .0 .holds .valid) (e .answer-is) (e .formula-is) (told .built2 .given .1) .fit
 
 slice-aggregate-test : tie.Need-slice-aggregate-test
 slice-aggregate-test c =
     let told = c .before .before in
     let call = told .before .before .before .before .before in
-    let start = call .before .before .before .before .before .before .before in
+    let start = call .before .before .before .before .before .before .before .before in
     let e = call .build-from .ensures in
-    formula-front _ _ (start .pre .holds .valid) (e .answer-is) (e .formula-is) (told .built2 .given .1) .front-long
+    formula-front _ _ (start .pre .0 .holds .valid) (e .answer-is) (e .formula-is) (told .built2 .given .1) .front-long
 
 test-requires : tie.Need-test-requires
 test-requires c κs =
     let told = c .before .before .before in
     let call = told .before .before .before .before .before in
-    let start = call .before .before .before .before .before .before .before in
+    let start = call .before .before .before .before .before .before .before .before in
     let e = call .build-from .ensures in
-    formula-front _ _ (start .pre .holds .valid) (e .answer-is) (e .formula-is) (told .built2 .given .1) .well-formed
+    formula-front _ _ (start .pre .0 .holds .valid) (e .answer-is) (e .formula-is) (told .built2 .given .1) .well-formed
 
 same-length : tie.Need-same-length
 same-length c = search needs
@@ -66,9 +66,9 @@ returns-2 c =
     let test = c .before .before .test .ensures in
     let told = c .before .before .before .before .before .before in
     let call = told .before .before .before .before .before in
-    let start = call .before .before .before .before .before .before .before in
+    let start = call .before .before .before .before .before .before .before .before in
     let e = call .build-from .ensures in
-    refutes-tested (start .pre .holds .valid) (e .answer-is) (e .pairs-are) (e .formula-is) (same-length-3 c)
+    refutes-tested (start .pre .0 .holds .valid) (e .answer-is) (e .pairs-are) (e .formula-is) (same-length-3 c)
     (same-length-4 c) (same-length-5 c) (told .built2 .given .1) (test .0) (test .1)
 
 pub refutes-spec : {M : Type 1} → statement M

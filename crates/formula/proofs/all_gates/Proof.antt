@@ -11,22 +11,22 @@ use Rattle.formula.proofs.all_gates.Statement.{statement}
 use Rattle.formula.proofs.all_gates.Tie as tie
 
 abbrev Inv-loop : tie.InvT-loop
-Inv-loop file shape tops table starts nodes₀ lates₀ formula₀ to₀ i₀ nodes lates formula to i =
+Inv-loop form file shape falls tops table starts nodes₀ lates₀ formula₀ to₀ i₀ nodes lates formula to i =
     (i ≤ shape .gates) × E.Emitting gateMost (gateRun file shape) i formula₀ to₀ formula to × Long nodes lates
 
 abbrev μ-loop : tie.MeasureT-loop
-μ-loop file shape tops table starts nodes₀ lates₀ formula₀ to₀ i₀ nodes lates formula to i = shape .gates - i
+μ-loop form file shape falls tops table starts nodes₀ lates₀ formula₀ to₀ i₀ nodes lates formula to i = shape .gates - i
 
 -- the places on the way
 abbrev start : tie.At-loop Inv-loop μ-loop → tie.Start Inv-loop μ-loop
-start c = c .before .before .before .before .before
+start c = c .before .before .before .before .before .before
 
 abbrev looped : tie.After-gate-at Inv-loop μ-loop → tie.At-loop Inv-loop μ-loop
 looped c = c .before .before .before
 
 loop-holds : tie.Need-loop-holds Inv-loop μ-loop
 loop-holds c =
-    let pre = c .before .before .before .before .pre in
+    let pre = c .before .before .before .before .before .pre in
     (omega arith, E.emitting-starts _ _ _ _ (pre .2 .fewer), pre .3)
 
 gate-at-requires : tie.Need-gate-at-requires Inv-loop μ-loop
@@ -43,7 +43,7 @@ gate-clauses-requires c κs =
     let holds = pre .0 in (
       holds .tables,
       pre .1,
-      gated-now (gate .gate-at .result) holds (pre .1) test (gate .gate-at .ensures .0),
+      gated-now (start (looped gate) .args .falls .now) (gate .gate-at .result) holds (pre .1) test (gate .gate-at .ensures .0),
       omega (arith, holds .counts .inputs-few, holds .counts .gates-few),
       E.emitting-fits 448 (pre .2) (looped gate .loop .inv .1) (omega (arith, holds .counts .gates-few)),
       looped gate .loop .inv .2,

@@ -1,17 +1,31 @@
 -- `formula::cube_clause` meets its contract: a driver that is late outright leaves the clause out; else six runs, one
 -- after the other. Assumes nothing.
-use mathlib.Core.Bool.{_||_}
-use mathlib.Core.Path.{refl}
+use mathlib.Core.Path.{_≡_, refl, ap₂}
 use native.Mathlib.Omega.{arith}
 use borrow.Author.Needs.{needs}
 use borrow.Author.Tests.{eq-eqb, ne-eqb}
-use Rattle.formula.proofs.Emission.{emits-none, emits-then, emits-as}
+use Rattle.formula.specs.declared.Asked.{Asked}
+use Rattle.formula.specs.Emission.{cubeRun, pairOfPins}
+use Rattle.formula.proofs.Emission.{emits-none, emits-then, emits-as, emits-by}
 use Rattle.formula.proofs.cube_clause.Statement.{statement}
 use Rattle.formula.proofs.cube_clause.Tie as tie
 
 -- what was stored of both, and the tests that neither is late outright
 abbrev both : tie.Else2 → tie.After-asked-at2
 both c = c .before .before .before .before
+
+-- what is put by what was stored
+stored : (c : tie.After-asked-at2) →
+    cubeRun (c .before .before .args .pair) (c .before .asked-at .result) (c .before .before .args .a)
+    (c .asked-at2 .result) (c .before .before .args .b)
+    ≡ pairOfPins (c .before .before .args .form) (c .before .before .args .pair)
+    (c .before .before .args .nodes .now) (c .before .before .args .lates .now)
+    (c .before .before .args .x) (c .before .before .args .a) (c .before .before .args .y)
+    (c .before .before .args .b)
+stored c =
+    let args = c .before .before .args in
+    ap₂ (λ (x y : Asked). cubeRun (args .pair) x (args .a) y (args .b)) (c .before .asked-at .ensures .0)
+    (c .asked-at2 .ensures .0)
 
 asked-at-requires : tie.Need-asked-at-requires
 asked-at-requires c κs = search needs
@@ -23,21 +37,17 @@ returns : tie.Need-returns
 returns c =
     let two = c .before .before in
     let s = two .before .before in
-    rw (← two .before .asked-at .ensures .1, eq-eqb _ _ (c .if1 .taken))
-    (emits-as 6 (emits-none _ _ (s .pre .3 .fewer)) refl (omega arith))
+    emits-by (stored two)
+    (rw (eq-eqb _ 1 (c .if1 .taken)) (emits-as 8 (emits-none _ _ (s .pre .3 .fewer)) refl (omega arith)))
 
 returns-2 : tie.Need-returns-2
 returns-2 c =
     let one = c .before .before in
     let two = one .before .before in
     let s = two .before .before in
-    rw (
-      ← two .before .asked-at .ensures .1,
-      ← two .asked-at2 .ensures .1,
-      ne-eqb _ _ (one .if1 .left),
-      eq-eqb _ _ (c .if2 .taken),
-    )
-    (emits-as 6 (emits-none _ _ (s .pre .3 .fewer)) refl (omega arith))
+    emits-by (stored two)
+    (rw (ne-eqb _ 1 (one .if1 .left), eq-eqb _ 1 (c .if2 .taken))
+    (emits-as 8 (emits-none _ _ (s .pre .3 .fewer)) refl (omega arith)))
 
 put-literal-requires : tie.Need-put-literal-requires
 put-literal-requires c κs = search needs
@@ -76,19 +86,13 @@ returns-3 c =
     let negated = first .before .before .before in
     let free = negated .before .before in
     let two = both free in
-    rw (
-      ← two .before .asked-at .ensures .0,
-      ← two .before .asked-at .ensures .1,
-      ← two .asked-at2 .ensures .0,
-      ← two .asked-at2 .ensures .1,
-      ne-eqb _ _ (free .before .before .if1 .left),
-      ne-eqb _ _ (free .if2 .left),
-    )
+    emits-by (stored two)
+    (rw (ne-eqb _ 1 (free .before .before .if1 .left), ne-eqb _ 1 (free .if2 .left))
     (emits-then
     (emits-then
     (emits-then (negated .put-literal .ensures) (first .put-literal-late .ensures))
     (second .put-literal-late2 .ensures))
-    (c .before .put-end .ensures))
+    (c .before .put-end .ensures)))
 
 pub cube-clause-spec : {M : Type 1} → statement M
 cube-clause-spec =

@@ -10,7 +10,7 @@ use Rattle.formula.proofs.gate_clauses.Statement.{statement}
 use Rattle.formula.proofs.gate_clauses.Tie as tie
 
 abbrev start : tie.After-read-asked → tie.Start
-start c = c .before .before .before .before .before .before .before
+start c = c .before .before .before .before .before .before .before .before
 
 read-asked-requires : tie.Need-read-asked-requires
 read-asked-requires c κs = search needs

@@ -15,8 +15,8 @@ returns c =
 put-part-requires : tie.Need-put-part-requires
 put-part-requires c κs = search needs
 
-put-shares-requires : tie.Need-put-shares-requires
-put-shares-requires c κs = search needs
+put-parts-requires : tie.Need-put-parts-requires
+put-parts-requires c κs = search needs
 
 put-end-requires : tie.Need-put-end-requires
 put-end-requires c κs = search needs
@@ -30,10 +30,10 @@ returns-2 c =
     let head = parts .before .before .before in
     rw (head .before .before .if1 .left)
     (emits-as _
-    (emits-then (emits-then (head .put-part .ensures) (parts .put-shares .ensures)) (c .before .put-end .ensures)) refl
+    (emits-then (emits-then (head .put-part .ensures) (parts .put-parts .ensures)) (c .before .put-end .ensures)) refl
     (omega arith))
 
 pub late-clause-spec : {M : Type 1} → statement M
 late-clause-spec =
     tie.close
-    (tie.spec returns put-part-requires put-shares-requires put-end-requires same-length returns-2)
+    (tie.spec returns put-part-requires put-parts-requires put-end-requires same-length returns-2)

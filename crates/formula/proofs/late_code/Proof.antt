@@ -1,6 +1,5 @@
 -- `formula::late_code` meets its contract: each way out is a case of "late at t". Assumes nothing.
 use native.Mathlib.Omega.{arith}
-use Rattle.pairs.proofs.Search.{begins-at}
 use Rattle.formula.proofs.Late.{positive, late-input, late-input-not, late-zero, late-beyond, late-pair}
 use borrow.Author.Needs.{needs}
 use Rattle.formula.proofs.late_code.Statement.{statement}
@@ -34,8 +33,8 @@ place-of-requires c κs =
     let later = c .before in
     let read = later .before .before .before in
     let pre = start read .pre in (
-      pre .1 .listed (later .before .if1 .left) (positive _ (later .if3 .left)) (omega (arith, read .top-at .ensures)),
-      begins-at _ (pre .0 .begins) (omega (arith, pre .1 .node-has, pre .0 .slices .tops-all)),
+      pre .listed (later .before .if1 .left) (positive _ (later .if3 .left)) (omega (arith, read .top-at .ensures)),
+      pre .bounds,
     )
 
 pair-variable-requires : tie.Need-pair-variable-requires
@@ -49,7 +48,7 @@ returns-5 c =
     let later = c .before .before .before in
     let read = later .before .before .before in
     rw (c .pair-variable .ensures)
-    (late-pair (start read .pre .0 .slices) (later .before .if1 .left) (positive _ (later .if3 .left))
+    (late-pair (start read .pre .slices) (later .before .if1 .left) (positive _ (later .if3 .left))
     (omega (arith, read .top-at .ensures)) (c .before .place-of .ensures))
 
 pub late-code-spec : {M : Type 1} → statement M

@@ -1,104 +1,112 @@
--- `formula::pair_clauses` meets its contract: the kind decides whether control clauses follow. Assumes nothing.
-use mathlib.Core.Path.{sym, ap₂, _∙_}
-use mathlib.Core.List.{List, _++_, append-nil}
+-- `formula::pair_clauses` meets its contract: three runs, one after the other. Assumes nothing.
+use mathlib.Core.Path.{sym, subst}
 use native.Mathlib.Omega.{arith}
-use Rattle.formula.specs.Emission.{Token, gateMost}
-use Rattle.formula.proofs.Emission.{emits-then, emits-as}
 use Rattle.netlist.proofs.Valid.{takes-mux}
-use Rattle.formula.proofs.Asking.{late-drivers, control-read, mux-control-read}
+use Rattle.formula.specs.declared.Side.{Side}
+use Rattle.formula.specs.Late.{lent, Served}
+use Rattle.formula.specs.Emission.{gateMost}
+use Rattle.formula.proofs.Emission.{emits-then, emits-as}
+use Rattle.formula.proofs.Asking.{rails-few}
+use Rattle.formula.proofs.PairClauses.{pair-read}
 use borrow.Author.Needs.{needs}
 use Rattle.formula.proofs.pair_clauses.Statement.{statement}
 use Rattle.formula.proofs.pair_clauses.Tie as tie
 
--- the places on the way
-abbrev reading : tie.After-late-clause → tie.After-read-asked
-reading c = c .before .before .before .before
+-- the start
+abbrev start : tie.After-fixed-clause → tie.Start
+start c = c .before .before .before .before .before .before .before .before .before .before .before
 
-abbrev start : tie.After-read-asked → tie.Start
-start c = c .before .before .before .before .before .before .before
+side-of-requires : tie.Need-side-of-requires
+side-of-requires c κs = search needs
 
 read-asked-requires : tie.Need-read-asked-requires
-read-asked-requires c κs = search needs
+read-asked-requires c κs =
+    let side = c .before .before in
+    let s = c .before .before .before .before .before .before .before .before in
+    let gated = s .pre .2 in (
+      s .pre .0,
+      s .pre .1,
+      subst (λ (x : Side). Served (s .args .file .now) (lent (s .args .shape) (s .args .tops .now) (s .args .table .now))
+          (s .args .form) (s .args .falls .now) x (s .args .gate .first) (s .args .gate .count) (s .args .t))
+          (sym (side .side-of .ensures)) (gated .drivers),
+      omega (arith, gated .few),
+      gated .within,
+      s .pre .7,
+    )
+
+fixed-clause-requires : tie.Need-fixed-clause-requires
+fixed-clause-requires c κs = search needs
+
+rails-for-requires : tie.Need-rails-for-requires
+rails-for-requires c κs = search needs
 
 mul-late-clause : tie.Need-mul-late-clause
 mul-late-clause c = search needs
 
 late-clause-requires : tie.Need-late-clause-requires
-late-clause-requires c κs = search needs
+late-clause-requires c κs =
+    let rails = c .before .before in
+    let fixed = rails .before .before in
+    let s = start fixed in
+    let few = rails-few (s .args .form) (s .args .gate .count) in (
+      omega (arith, s .pre .5),
+      omega (arith, few, rails .rails-for .ensures, s .pre .2 .few),
+      record {
+        place =
+            omega (
+              arith,
+              few,
+              rails .rails-for .ensures,
+              s .pre .2 .few,
+              s .pre .6 .place,
+              fixed .fixed-clause .ensures .few,
+            );
+        fewer = fixed .fixed-clause .ensures .fewer;
+      },
+    )
 
-enum-known-kind : tie.Need-enum-known-kind
-enum-known-kind c = search needs
-
-put-shares-requires : tie.Need-put-shares-requires
-put-shares-requires c κs = search needs
+control-clauses-requires : tie.Need-control-clauses-requires
+control-clauses-requires c κs =
+    let late = c .before .before .before .before in
+    let rails = late .before .before .before in
+    let fixed = rails .before .before in
+    let s = start fixed in
+    let few = rails-few (s .args .form) (s .args .gate .count) in (
+      s .pre .2 .few,
+      s .pre .5,
+      record {
+        place =
+            omega (
+              arith,
+              few,
+              rails .rails-for .ensures,
+              s .pre .2 .few,
+              s .pre .6 .place,
+              fixed .fixed-clause .ensures .few,
+              late .late-clause .ensures .few,
+            );
+        fewer = late .late-clause .ensures .fewer;
+      },
+    )
 
 same-length : tie.Need-same-length
 same-length c = search needs
 
 returns : tie.Need-returns
 returns c =
-    let kind = c .before .before .before .before .before .before in
-    let late = kind .before .before .before in
-    let read = reading late in
-    let s = start read in (
-      rw (kind .kind .given .1)
-          (emits-as gateMost (emits-then (late .late-clause .ensures) (c .before .put-shares .ensures))
-          (ap₂ (λ (x y : List Token). x ++ y) (late-drivers (read .read-asked .ensures) (s .args .pair) (s .pre .3))
-          (control-read (read .read-asked .ensures) (kind .kind .given .0 .0) (kind .kind .given .0 .1 .0)
-          (s .args .pair)))
-          (omega (arith, s .pre .2 .few))),
-      read .read-asked .ensures .long,
-    )
-
-enum-told : tie.Need-enum-told
-enum-told c = search needs
-
-same-length-2 : tie.Need-same-length-2
-same-length-2 c = search needs
-
-returns-2 : tie.Need-returns-2
-returns-2 c =
-    let late = c .before .before .before in
-    let read = reading late in
-    let s = start read in (
-      rw (c .enum-told .given .1)
-          (emits-as gateMost (late .late-clause .ensures)
-          (late-drivers (read .read-asked .ensures) (s .args .pair) (s .pre .3) ∙ sym (append-nil _))
-          (omega (arith, s .pre .2 .few))),
-      read .read-asked .ensures .long,
-    )
-
-enum-told-2 : tie.Need-enum-told-2
-enum-told-2 c = search needs
-
-mux-control-requires : tie.Need-mux-control-requires
-mux-control-requires c κs =
-    let told = c .before .before .before in
-    let late = told .before .before .before in
-    let s = start (reading late) in
-    let three = takes-mux _ (told .enum-told2 .given .1) (s .pre .2 .takes-all) in (
-      s .pre .4,
-      record {
-        place = omega (arith, s .pre .5 .place, late .late-clause .ensures .few);
-        fewer = late .late-clause .ensures .fewer;
-      },
-    )
-
-same-length-3 : tie.Need-same-length-3
-same-length-3 c = search needs
-
-returns-3 : tie.Need-returns-3
-returns-3 c =
-    let told = c .before .before .before .before .before in
-    let late = told .before .before .before in
-    let read = reading late in
-    let s = start read in
-    let three = takes-mux _ (told .enum-told2 .given .1) (s .pre .2 .takes-all) in (
-      rw (told .enum-told2 .given .1)
-          (emits-as gateMost (emits-then (late .late-clause .ensures) (c .before .mux-control .ensures))
-          (ap₂ (λ (x y : List Token). x ++ y) (late-drivers (read .read-asked .ensures) (s .args .pair) (s .pre .3))
-          (mux-control-read (read .read-asked .ensures) (s .args .pair) three))
-          (omega arith)),
+    let late = c .before .before .before .before .before .before in
+    let rails = late .before .before .before in
+    let fixed = rails .before .before in
+    let read = fixed .before .before in
+    let s = start fixed in
+    let few = rails-few (s .args .form) (s .args .gate .count) in (
+      emits-as gateMost
+          (emits-then (emits-then (fixed .fixed-clause .ensures) (late .late-clause .ensures))
+          (c .before .control-clauses .ensures))
+          (pair-read (s .args .rail) (s .args .gate .kind) (s .args .pair) (read .read-asked .ensures)
+          (rails .rails-for .ensures)
+          (read .before .before .before .side-of .ensures) (s .pre .4) (λ e. takes-mux _ e (s .pre .2 .takes-all)))
+          (omega (arith, few, rails .rails-for .ensures, s .pre .2 .few)),
       read .read-asked .ensures .long,
     )
 
@@ -106,17 +114,12 @@ pub pair-clauses-spec : {M : Type 1} → statement M
 pair-clauses-spec =
     tie.close
     (tie.spec
+    side-of-requires
     read-asked-requires
+    fixed-clause-requires
+    rails-for-requires
     mul-late-clause
     late-clause-requires
-    enum-known-kind
-    put-shares-requires
+    control-clauses-requires
     same-length
-    returns
-    enum-told
-    same-length-2
-    returns-2
-    enum-told-2
-    mux-control-requires
-    same-length-3
-    returns-3)
+    returns)

@@ -1,21 +1,20 @@
 -- `formula::put_shares` meets its contract: driver after driver, each puts its run. Assumes nothing.
-use mathlib.Core.Path.{ap₂}
+use mathlib.Core.Path.{ap}
 use Prim.Native.Nat.{_-_, _*_, _≤_}
 use native.Mathlib.Omega.{arith}
-use lib.ListN.{getD}
 use borrow.Author.Needs.{needs}
-use Rattle.formula.specs.Emission.{shareMost, shareRun}
+use Rattle.formula.specs.Emission.{shareMost, storedAt, shareRun}
 use Rattle.formula.proofs.Emission as E
 use Rattle.formula.proofs.put_shares.Statement.{statement}
 use Rattle.formula.proofs.put_shares.Tie as tie
 
 abbrev Inv-loop : tie.InvT-loop
-Inv-loop nodes lates count share c k own formula₀ to₀ i₀ formula to i =
+Inv-loop form nodes lates count share c k own formula₀ to₀ i₀ formula to i =
     (i ≤ count)
-    × E.Emitting shareMost (λ j. shareRun share c k own (getD nodes j 0) (getD lates j 0)) i formula₀ to₀ formula to
+    × E.Emitting shareMost (λ j. shareRun share c k own (storedAt form nodes lates j)) i formula₀ to₀ formula to
 
 abbrev μ-loop : tie.MeasureT-loop
-μ-loop nodes lates count share c k own formula₀ to₀ i₀ formula to i = count - i
+μ-loop form nodes lates count share c k own formula₀ to₀ i₀ formula to i = count - i
 
 loop-holds : tie.Need-loop-holds Inv-loop μ-loop
 loop-holds c = (omega arith, E.emitting-starts _ _ _ _ (c .pre .2 .fewer))
@@ -41,7 +40,7 @@ loop-again c =
       omega arith,
       E.emitting-more (loop .inv .1)
           (E.emits-as shareMost (c .before .put-share .ensures)
-          (ap₂ (shareRun (args .share) (args .c) (args .k) (args .own)) (read .0) (read .1))
+          (ap (shareRun (args .share) (args .c) (args .k) (args .own)) (read .0))
           (omega arith)),
     )
 

@@ -1,46 +1,74 @@
 -- `formula::write` meets its contract: what was put are the formula's numbers; the two ends are rows of the promise.
 -- Assumes nothing.
-use mathlib.Core.Path.{sym}
-use Prim.Native.Nat.{_+_, _*_}
+use mathlib.Core.Path.{_≡_, sym}
+use Prim.Native.Nat.{_+_, _*_, _≤_}
 use native.Mathlib.Omega.{arith}
-use lib.ListN.{take}
+use lib.ListN.{length, take}
 use lib.Seq.{length-take-le}
+use Rattle.netlist.specs.Netlist.{slopesBy}
 use Rattle.pairs.proofs.Topping.{tops-long}
 use Rattle.formula.proofs.Emission.{emits-length}
-use Rattle.formula.proofs.Rows.{front, lent-ready, lent-numbers, wrote-none, wrote-all}
+use Rattle.formula.proofs.Table.{tableAt}
+use Rattle.formula.proofs.Rows.{
+  few-held,
+  front,
+  spread-fits,
+  lent-ready,
+  lent-numbers,
+  wrote-none,
+  wrote-all,
+}
 use borrow.Author.Needs.{needs}
 use Rattle.formula.proofs.write.Statement.{statement}
 use Rattle.formula.proofs.write.Tie as tie
+
+-- the places: the start, and what was put
+abbrev start : tie.After-emit → tie.Start
+start c = c .before .before .before .before .before .before .before .before .before
+
+-- what the pairs' table says at the start
+few : (s : tie.Start) → (s .args .count * 2 ≤ length (s .args .pairs .now)) × (s .args .count ≤ 65536)
+few s =
+    few-held (s .args .file .now) (s .args .shape) (take (s .args .shape .inputs) (s .args .tops .now)) (s .args .form)
+    (s .args .falls .now) (s .args .target)
+    (s .args .pairs .now) (s .args .count) (s .pre .3)
+
+pairs-there : (s : tie.Start) →
+    take (s .args .count * 2) (s .args .pairs .now)
+    ≡ tableAt (s .args .file .now) (s .args .shape) (take (s .args .shape .inputs) (s .args .tops .now)) (s .args .form)
+    (s .args .falls .now) (s .args .target)
+pairs-there s =
+    front (s .args .file .now) (s .args .shape) (take (s .args .shape .inputs) (s .args .tops .now)) (s .args .form)
+    (s .args .falls .now) (s .args .target)
+    (s .args .pairs .now) (s .args .count) (s .pre .3)
 
 add-nodes : tie.Need-add-nodes
 add-nodes c = search needs
 
 slice-aggregate-emit : tie.Need-slice-aggregate-emit
 slice-aggregate-emit c =
-    let pre = c .before .before .before .before .before .pre in
-    sym (length-take-le _ _ (tops-long (pre .0) (pre .1)))
+    let s = c .before .before .before .before .before .before in
+    sym (length-take-le _ _
+    (tops-long (slopesBy (s .args .form) (s .args .falls .now)) (s .pre .0) (s .pre .1) (s .pre .2)))
 
 mul-emit : tie.Need-mul-emit
 mul-emit c = search needs
 
 slice-reshare-prefix-emit : tie.Need-slice-reshare-prefix-emit
-slice-reshare-prefix-emit c = search needs
+slice-reshare-prefix-emit c = few (c .before .before .before .before .before .before) .0
 
 slice-aggregate-emit-2 : tie.Need-slice-aggregate-emit-2
-slice-aggregate-emit-2 c =
-    let pre = c .before .before .before .before .before .before .pre in
-    sym (length-take-le _ _ (omega (arith, pre .2 .1)))
+slice-aggregate-emit-2 c = sym (length-take-le _ _ (few (c .before .before .before .before .before .before .before) .0))
 
 emit-requires : tie.Need-emit-requires
 emit-requires c κs =
-    let args = c .before .before .before .before .before .before .before .args in
-    let pre = c .before .before .before .before .before .before .before .pre in
-    let ready = lent-ready (args .file .now) (args .shape) (take (args .shape .inputs) (args .tops .now)) (args .target)
-    (take (args .shape .inputs + args .shape .gates) (args .tops .now)) (take (args .count * 2) (args .pairs .now))
-    (pre .1 .is) (front (args .file .now) (args .shape) (take (args .shape .inputs) (args .tops .now)) (args .target)
-    (args .pairs .now) (args .count) (pre .2))
-    (pre .0) (omega (arith, pre .2 .0, pre .2 .1)) in
-    (pre .0 .holds, ready .0, ready .1, ready .2)
+    let s = c .before .before .before .before .before .before .before .before in
+    let ready = lent-ready (s .args .file .now) (s .args .shape) (take (s .args .shape .inputs) (s .args .tops .now)) (s .args .form)
+    (s .args .falls .now) (s .args .target)
+    (take (s .args .shape .inputs + s .args .shape .gates) (s .args .tops .now))
+    (take (s .args .count * 2) (s .args .pairs .now)) (s .pre .2 .is) (pairs-there s) (s .pre .0) (s .pre .1)
+    (omega (arith, s .pre .3 .0, few s .1)) in
+    (s .pre .0 .holds, ready .0, ready .1, ready .2)
 
 zero-u32-requires : tie.Need-zero-u32-requires
 zero-u32-requires c κs = search needs
@@ -56,28 +84,30 @@ same-length-2 c = search needs
 
 returns : tie.Need-returns
 returns c =
-    let zero-u32 = c .before .before .before .before .before .zero-u32 in
-    let if1 = c .before .before .before .before .before .before .before .if1 in
-    let emit = c .before .before .before .before .before .before .before .before .before .emit in
-    let args = c .before .before .before .before .before .before .before .before .before .before .before .before .before
-    .before .before .before .before .args in
-    let pre = c .before .before .before .before .before .before .before .before .before .before .before .before .before
-    .before .before .before .before .pre in
-    wrote-none (args .file .now) (args .shape) (take (args .shape .inputs) (args .tops .now)) (args .target)
-    (args .pairs .now) (args .count) (pre .2)
-    (args .formula .now) _ (emit .result)
-    (lent-numbers (args .file .now) (args .shape) (take (args .shape .inputs) (args .tops .now)) (args .target)
-    (take (args .shape .inputs + args .shape .gates) (args .tops .now)) (take (args .count * 2) (args .pairs .now))
-    (pre .1 .is) (front (args .file .now) (args .shape) (take (args .shape .inputs) (args .tops .now)) (args .target)
-    (args .pairs .now) (args .count) (pre .2))
-    (emit .ensures)) (emits-length (emit .ensures)) _ _
-    (if1 .taken) (zero-u32 .ensures) (c .before .zero-i32 .ensures)
+    let emit = c .before .before .before .before .before .before .before .before .before in
+    let s = start emit in
+    wrote-none (s .args .file .now) (s .args .shape) (take (s .args .shape .inputs) (s .args .tops .now)) (s .args .form)
+    (s .args .falls .now) (s .args .target)
+    (s .args .pairs .now) (s .args .count) (s .pre .3) (s .args .formula .now) _ (emit .emit .result)
+    (lent-numbers (s .args .file .now) (s .args .shape) (take (s .args .shape .inputs) (s .args .tops .now)) (s .args .form)
+    (s .args .falls .now) (s .args .target)
+    (take (s .args .shape .inputs + s .args .shape .gates) (s .args .tops .now))
+    (take (s .args .count * 2) (s .args .pairs .now)) (s .pre .2 .is) (pairs-there s) (emit .emit .ensures))
+    (emits-length (emit .emit .ensures)) _ _ (c .before .before .before .before .before .before .before .if1 .taken) (c .before .before .before .before .before .zero-u32 .ensures)
+    (c .before .zero-i32 .ensures)
+
+spread-requires : tie.Need-spread-requires
+spread-requires c κs =
+    let s = c .before .before .before .before .before .before .before .before .before .before .before .before in
+    spread-fits (s .args .file .now) (s .args .shape) (take (s .args .shape .inputs) (s .args .tops .now)) (s .args .form)
+    (s .args .falls .now) (s .args .target)
+    (s .args .pairs .now) (s .args .count) (s .pre .3)
 
 zero-rest-i32-requires : tie.Need-zero-rest-i32-requires
 zero-rest-i32-requires c κs = search needs
 
-add-t13 : tie.Need-add-t13
-add-t13 c = search needs
+add-t15 : tie.Need-add-t15
+add-t15 c = search needs
 
 same-length-3 : tie.Need-same-length-3
 same-length-3 c = search needs
@@ -87,21 +117,17 @@ same-length-4 c = search needs
 
 returns-2 : tie.Need-returns-2
 returns-2 c =
-    let if1 = c .before .before .before .if1 in
-    let emit = c .before .before .before .before .before .emit in
-    let args = c .before .before .before .before .before .before .before .before .before .before .before .before .before
-    .args in
-    let pre = c .before .before .before .before .before .before .before .before .before .before .before .before .before
-    .pre in
-    wrote-all (args .file .now) (args .shape) (take (args .shape .inputs) (args .tops .now)) (args .target)
-    (args .pairs .now) (args .count) (pre .2)
-    (args .formula .now) _ (emit .result)
-    (lent-numbers (args .file .now) (args .shape) (take (args .shape .inputs) (args .tops .now)) (args .target)
-    (take (args .shape .inputs + args .shape .gates) (args .tops .now)) (take (args .count * 2) (args .pairs .now))
-    (pre .1 .is) (front (args .file .now) (args .shape) (take (args .shape .inputs) (args .tops .now)) (args .target)
-    (args .pairs .now) (args .count) (pre .2))
-    (emit .ensures)) (emits-length (emit .ensures)) _
-    (if1 .left) (c .before .zero-rest-i32 .ensures)
+    let emit = c .before .before .before .before .before .before .before .before .before in
+    let s = start emit in
+    wrote-all (s .args .file .now) (s .args .shape) (take (s .args .shape .inputs) (s .args .tops .now)) (s .args .form)
+    (s .args .falls .now) (s .args .target)
+    (s .args .pairs .now) (s .args .count) (s .pre .3) (s .args .formula .now) _ (emit .emit .result)
+    (lent-numbers (s .args .file .now) (s .args .shape) (take (s .args .shape .inputs) (s .args .tops .now)) (s .args .form)
+    (s .args .falls .now) (s .args .target)
+    (take (s .args .shape .inputs + s .args .shape .gates) (s .args .tops .now))
+    (take (s .args .count * 2) (s .args .pairs .now)) (s .pre .2 .is) (pairs-there s) (emit .emit .ensures))
+    (emits-length (emit .emit .ensures)) _ _ (c .before .before .before .before .before .before .before .if1 .left)
+    (c .before .before .before .before .before .spread .ensures (s .args .falls .now)) (c .before .zero-rest-i32 .ensures)
 
 pub write-spec : {M : Type 1} → statement M
 write-spec =
@@ -118,8 +144,9 @@ write-spec =
     same-length
     same-length-2
     returns
+    spread-requires
     zero-rest-i32-requires
-    add-t13
+    add-t15
     same-length-3
     same-length-4
     returns-2)

@@ -32,15 +32,16 @@ use Rattle.pairs.proofs.fill.Statement.{statement}
 use Rattle.pairs.proofs.fill.Tie as tie
 
 abbrev Inv-loop : tie.InvT-loop
-Inv-loop file shape form falls target tops heads links table₀ marks₀ ends₀ at₀ held first f₀ low₀ word₀ bits₀ table marks ends at f low word
-    bits =
-    Finding file shape (take (shape .inputs) tops) (slopesBy form falls) target table₀ table ends at f marks low word bits
+Inv-loop file shape form falls target tops heads links table₀ marks₀ ends₀ at₀ held first f₀ low₀ word₀ bits₀ table
+    marks ends at f low word bits =
+    Finding file shape (take (shape .inputs) tops) (slopesBy form falls) target table₀ table ends at f marks low word
+    bits
     × (length marks ≡ length marks₀)
     × (length ends ≡ length ends₀)
 
 abbrev μ-loop : tie.MeasureT-loop
-μ-loop file shape form falls target tops heads links table₀ marks₀ ends₀ at₀ held first f₀ low₀ word₀ bits₀ table marks ends at f low word
-    bits =
+μ-loop file shape form falls target tops heads links table₀ marks₀ ends₀ at₀ held first f₀ low₀ word₀ bits₀ table marks
+    ends at f low word bits =
     (f * 10000 + word) * 18446744073709551616 + bits
 
 -- the places: the start, and the turn of a word that is read, of a rail that is done, and of a bit that is taken
@@ -174,12 +175,14 @@ rail-count-requires c κs =
 
 add-rail-count : tie.Need-add-rail-count Inv-loop μ-loop
 add-rail-count c =
-    let counts = c .before .before .before .before .before .before .before .before .before .before .pre .0 .holds .counts in
+    let counts =
+    c .before .before .before .before .before .before .before .before .before .before .pre .0 .holds .counts in
     omega (arith, counts .inputs-few, counts .gates-few)
 
 rail-count-requires-2 : tie.Need-rail-count-requires-2 Inv-loop μ-loop
 rail-count-requires-2 c κs =
-    let counts = c .before .before .before .before .before .before .before .before .before .before .pre .0 .holds .counts in
+    let counts =
+    c .before .before .before .before .before .before .before .before .before .before .pre .0 .holds .counts in
     omega (arith, counts .inputs-few, counts .gates-few)
 
 loop-holds : tie.Need-loop-holds Inv-loop μ-loop
@@ -228,7 +231,8 @@ loop-again : tie.Need-loop-again Inv-loop μ-loop
 loop-again c =
     let turn = reads (c .before) in
     let some = c .before .before .before in (
-      finding-next (slopes turn) (start turn .pre .0) (start turn .pre .1) _ (turn .loop .inv .0) (some .before .if1 .taken) _ (some .if2 .taken)
+      finding-next (slopes turn) (start turn .pre .0) (start turn .pre .1) _ (turn .loop .inv .0)
+          (some .before .if1 .taken) _ (some .if2 .taken)
           (c .before .last-word .ensures) refl,
       simp length-set (turn .loop .inv .1),
       turn .loop .inv .2,
@@ -348,7 +352,8 @@ same-length-3 c = takes (c .before) .loop .inv .2
 returns : tie.Need-returns Inv-loop μ-loop
 returns c =
     let turn = takes (c .before) in
-    finding-full (slopes turn) (start turn .pre .0) (start turn .pre .1) _ (turn .loop .inv .0) (c .before .highest .ensures) (c .if4 .taken)
+    finding-full (slopes turn) (start turn .pre .0) (start turn .pre .1) _ (turn .loop .inv .0)
+    (c .before .highest .ensures) (c .if4 .taken)
 
 highest-requires : tie.Need-highest-requires Inv-loop μ-loop
 highest-requires c κs = omega arith
@@ -387,7 +392,8 @@ loop-again-3 c =
     let put = c .before .before .put-pair in
     let taken = c .before .before .before .before .before in
     let turn = takes taken in (
-      finding-more (slopes turn) (start turn .pre .0) (start turn .pre .1) _ (turn .loop .inv .0) (taken .highest .ensures) _ _ (omega arith)
+      finding-more (slopes turn) (start turn .pre .0) (start turn .pre .1) _ (turn .loop .inv .0)
+          (taken .highest .ensures) _ _ (omega arith)
           (put .ensures .0) (put .ensures .1) (ap (λ (x : ℕ). turn .loop .bits - x) (bit-power taken)),
       turn .loop .inv .1,
       turn .loop .inv .2,

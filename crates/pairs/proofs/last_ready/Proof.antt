@@ -9,7 +9,8 @@ use Rattle.pairs.proofs.last_ready.Statement.{statement}
 use Rattle.pairs.proofs.last_ready.Tie as tie
 
 abbrev Inv-loop : tie.InvT-loop
-Inv-loop file shape form falls number tops first count latest₀ k₀ latest k = (k ≤ count) × Readying file shape (slopesBy form falls) number tops latest k
+Inv-loop file shape form falls number tops first count latest₀ k₀ latest k =
+    (k ≤ count) × Readying file shape (slopesBy form falls) number tops latest k
 
 abbrev μ-loop : tie.MeasureT-loop
 μ-loop file shape form falls number tops first count latest₀ k₀ latest k = count - k
@@ -35,8 +36,15 @@ driver-at-requires c κs =
 slow-at-requires : tie.Need-slow-at-requires Inv-loop μ-loop
 slow-at-requires c κs =
     let gate = c .before .before .before in
-    let start = gate .before .before .before .before in
-    (start .pre .0 .tables, start .pre .1, omega (arith, gate-within _ (start .pre .0) (start .pre .2) (gate .gate-at .ensures .0)))
+    let start = gate .before .before .before .before in (
+      start .pre .0 .tables,
+      start .pre .1,
+      omega (
+        arith,
+        gate-within _ (start .pre .0) (start .pre .2)
+            (gate .gate-at .ensures .0),
+      ),
+    )
 
 mul-widen : tie.Need-mul-widen Inv-loop μ-loop
 mul-widen c = omega arith

@@ -69,7 +69,8 @@ loop-holds : tie.Need-loop-holds Inv-loop μ-loop
 loop-holds c =
     let given = c .before .before .before .before .pre in
     let fields = gate-fields _ _ _ _ (c .gate-at .ensures .0) in
-    let e : pinsBefore (c .before .before .before .before .args .file .now) (c .before .before .before .before .args .shape)
+    let e : pinsBefore (c .before .before .before .before .args .file .now)
+    (c .before .before .before .before .args .shape)
     (c .before .before .before .before .args .number) ≡ c .gate-at .result .first + 0 =
     omega (arith, fields .0, first-pin (given .0) (c .before .before .before .before .args .number) (given .1))
     in

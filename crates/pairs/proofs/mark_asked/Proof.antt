@@ -15,7 +15,8 @@ use Rattle.pairs.proofs.mark_asked.Tie as tie
 
 abbrev Inv-loop : tie.InvT-loop
 Inv-loop done file shape form falls target heads links ends f top marks₀ span₀ at₀ marks span at =
-    (length marks ≡ length marks₀) × Walking (pairsIn done) file shape (slopesBy form falls) target f top links marks₀ marks at
+    (length marks ≡ length marks₀) × Walking (pairsIn done) file shape (slopesBy form falls) target f top links marks₀
+    marks at
     × Spans top marks span
 
 abbrev μ-loop : tie.MeasureT-loop
@@ -23,11 +24,13 @@ abbrev μ-loop : tie.MeasureT-loop
 
 -- the start, and the link of a turn
 abbrev start : tie.At-loop Inv-loop μ-loop → tie.Start Inv-loop μ-loop
-start c = c .before .before .before .before .before .before .before .before .before .before .before .before .before .before
+start c =
+    c .before .before .before .before .before .before .before .before .before .before .before .before .before .before
 
 here : (c : tie.At-loop Inv-loop μ-loop) → 0 < c .loop .at →
     let given = start c .args in
-    Here (pairsIn (given .done .now)) (given .file .now) (given .shape) (slopesBy (given .form) (given .falls .now)) (given .target) (given .f) (given .top)
+    Here (pairsIn (given .done .now)) (given .file .now) (given .shape) (slopesBy (given .form) (given .falls .now))
+    (given .target) (given .f) (given .top)
     (given .links .now) (c .before .before .before .before .before .mark-output .last .1 .1 .1 .1 .1 .0)
     (c .loop .marks)
     (c .loop .at)
@@ -47,7 +50,8 @@ mul-widen c = omega arith
 
 shared-slice-read-widen : tie.Need-shared-slice-read-widen Inv-loop μ-loop
 shared-slice-read-widen c =
-    let given = c .before .before .before .before .before .before .before .before .before .before .before .before .pre in
+    let given = c .before .before .before .before .before .before .before .before .before .before .before .before .pre
+    in
     omega (arith, given .3, given .4)
 
 widen-requires : tie.Need-widen-requires Inv-loop μ-loop
@@ -55,7 +59,8 @@ widen-requires c κs = tt
 
 loop-holds : tie.Need-loop-holds Inv-loop μ-loop
 loop-holds c =
-    let begun = c .before .before .before .before .before .before .before .before .before .before .before .before .before in
+    let begun =
+    c .before .before .before .before .before .before .before .before .before .before .before .before .before in
     let low : begun .args .f < length (begun .args .heads .now) = omega (arith, begun .pre .3, begun .pre .4) in
     let chain = begun .pre .7 .of (begun .args .f) low in
     let output = c .before .before .before .before .mark-output in
@@ -94,7 +99,8 @@ mark-link-requires c κs =
       above .1,
       above .2,
       given .8,
-      ended-later _ (given .9) (rail-up (slopesBy (start at .args .form) (start at .args .falls .now)) (start at .args .f + 1)
+      ended-later _ (given .9) (rail-up (slopesBy (start at .args .form) (start at .args .falls .now))
+          (start at .args .f + 1)
           (start at .args .shape .inputs + now .pin .0) (omega (arith, above .0))),
       given .5,
       omega (

@@ -143,7 +143,7 @@ mark-rail-requires-3 c κs =
       ends .1,
       ends .2,
       omega (arith, given .3, given .1 .counts .inputs-few, given .1 .counts .gates-few),
-      delay-low delay,
+      omega (arith, delay-low delay, fall-low (first .before .before)),
       given .7,
       omega (arith, given .8, first .mark-rail2 .kept .1 .1 .1 .1 .1 .1 .0),
       first .mark-rail2 .ensures .1,

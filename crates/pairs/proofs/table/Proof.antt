@@ -113,7 +113,12 @@ mul-move-down c =
     omega (arith, room (c .before), holds-is (sized (filled (c .before))), few (sized (filled (c .before))) .1)
 
 mul-move-down-2 : tie.Need-mul-move-down-2
-mul-move-down-2 c = omega (arith, room (c .before), holds-is (sized (filled (c .before))), few (sized (filled (c .before))) .1)
+mul-move-down-2 c = omega (
+  arith,
+  room (c .before),
+  holds-is (sized (filled (c .before))),
+  few (sized (filled (c .before))) .1,
+)
 
 move-down-requires : tie.Need-move-down-requires
 move-down-requires c κs =
@@ -122,7 +127,8 @@ move-down-requires c κs =
     let whole = sized done in
     let table = start whole .args .table .now in
     let same = done .find .kept .1 .1 .1 .1 .1 .1 .1 .1 .0 in
-    let long = length-front table (done .find .last .1 .1 .1 .1 .1 .1 .1 .1 .0) (whole .holds .result * 2) (omega arith) in
+    let long = length-front table (done .find .last .1 .1 .1 .1 .1 .1 .1 .1 .0) (whole .holds .result * 2)
+    (omega arith) in
     let fits : told .before .got .given .0 .0 * 2 + (whole .holds .result - told .before .got .given .0 .0) * 2
     ≤ length (start whole .args .table .now) =
     omega (arith, room told, holds-is whole, few whole .0)
@@ -143,10 +149,7 @@ zero-rest-u32-requires c κs =
     let same = done .find .kept .1 .1 .1 .1 .1 .1 .1 .1 .0 in
     let long =
     length-front table (done .find .last .1 .1 .1 .1 .1 .1 .1 .1 .0) (whole .holds .result * 2) (omega arith) in
-    let fits : (whole .holds .result - told .before .got .given .0 .0) * 2 ≤ length (start whole .args .table .now) =
-    omega (arith, holds-is whole, few whole .0)
-    in
-    omega (arith, fits, long, c .before .before .before .move-down .kept)
+    omega (arith, long, c .before .before .before .move-down .kept, holds-is whole, few whole .0)
 
 enum-told : tie.Need-enum-told
 enum-told c = search needs

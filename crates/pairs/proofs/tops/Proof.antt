@@ -34,8 +34,12 @@ add-nodes c = omega arith
 
 loop-holds : tie.Need-loop-holds Inv-loop μ-loop
 loop-holds c =
-    let given = c .before .before .before .before .before .before .before .before .before .pre in
-    (omega arith, refl, topping-starts _ (given .0) (given .1) (given .2) (c .before .before .before .copy-u32 .ensures))
+    let given = c .before .before .before .before .before .before .before .before .before .pre in (
+      omega arith,
+      refl,
+      topping-starts _ (given .0) (given .1) (given .2)
+          (c .before .before .before .copy-u32 .ensures),
+    )
 
 add-node : tie.Need-add-node Inv-loop μ-loop
 add-node c = omega arith
@@ -62,7 +66,8 @@ cast-tops c =
     let turn = c .before .before .before .before .before in
     omega (
       arith,
-      topping-small _ (start turn .pre .0) (start turn .pre .1) _ (turn .loop .inv .2) (c .before .before .before .if1 .taken)
+      topping-small _ (start turn .pre .0) (start turn .pre .1) _ (turn .loop .inv .2)
+          (c .before .before .before .if1 .taken)
           (c .last-ready .ensures),
     )
 
@@ -83,7 +88,8 @@ loop-again c =
     let turn = c .before .before .before .before .before in (
       omega arith,
       simp length-set (turn .loop .inv .1),
-      topping-more _ (start turn .pre .0) (start turn .pre .1) _ (turn .loop .inv .2) (c .before .before .before .if1 .taken)
+      topping-more _ (start turn .pre .0) (start turn .pre .1) _ (turn .loop .inv .2)
+          (c .before .before .before .if1 .taken)
           (c .last-ready .ensures),
     )
 

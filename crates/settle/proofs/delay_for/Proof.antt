@@ -14,8 +14,7 @@ cast-result c = search needs
 
 returns : tie.Need-returns
 unfolding pinAt
-returns c =
-    rw (c .before .if1 .taken) (c .delay-at .ensures)
+returns c = rw (c .before .if1 .taken) (c .delay-at .ensures)
 
 mul-result : tie.Need-mul-result
 mul-result c = search needs

@@ -53,8 +53,8 @@ returns c =
     let after = known .before .before in
     let s = start after in
     rw
-    (L.of-accepted (s .args .file .now) (s .args .arrivals .now) alike (s .args .vector .now) (length (s .args .values .now))
-    (length (s .args .times .now)) _ (sym (asked after) ∙ known .opened .given .1) refl)
+    (L.of-accepted (s .args .file .now) (s .args .arrivals .now) alike (s .args .vector .now)
+    (length (s .args .values .now)) (length (s .args .times .now)) _ (sym (asked after) ∙ known .opened .given .1) refl)
     (call .evaluate-accepted .ensures)
 
 same-length-3 : tie.Need-same-length-3
@@ -70,8 +70,8 @@ returns-2 c =
     let after = known .before .before in
     let s = start after in
     rw
-    (L.of-rejected (s .args .file .now) (s .args .arrivals .now) alike (s .args .vector .now) (length (s .args .values .now))
-    (length (s .args .times .now)) _ (sym (asked after) ∙ known .opened2 .given .1))
+    (L.of-rejected (s .args .file .now) (s .args .arrivals .now) alike (s .args .vector .now)
+    (length (s .args .values .now)) (length (s .args .times .now)) _ (sym (asked after) ∙ known .opened2 .given .1))
     (call .refuse .ensures)
 
 pub evaluate-spec : {M : Type 1} → statement M

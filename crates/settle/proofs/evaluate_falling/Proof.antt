@@ -1,5 +1,5 @@
--- `settle::evaluate_falling` meets its contract: row 19 decides between a refusal and the evaluation of the circuit with
--- these slopes. Assumes nothing.
+-- `settle::evaluate_falling` meets its contract: row 19 decides between a refusal and the evaluation of the circuit
+-- with these slopes. Assumes nothing.
 use mathlib.Core.Path.{sym, _∙_}
 use lib.ListN.{length}
 use Rattle.netlist.specs.Netlist.{apart}
@@ -10,12 +10,10 @@ use Rattle.settle.proofs.evaluate_falling.Statement.{statement}
 use Rattle.settle.proofs.evaluate_falling.Tie as tie
 
 check-falls-requires : tie.Need-check-falls-requires
-check-falls-requires c κs =
-    search needs
+check-falls-requires c κs = search needs
 
 enum-told : tie.Need-enum-told
-enum-told c =
-    search needs
+enum-told c = search needs
 
 evaluate-given-requires : tie.Need-evaluate-given-requires
 evaluate-given-requires c κs =
@@ -27,20 +25,16 @@ evaluate-given-requires c κs =
     )
 
 enum-known-sloped : tie.Need-enum-known-sloped
-enum-known-sloped c =
-    search needs
+enum-known-sloped c = search needs
 
 refuse-requires : tie.Need-refuse-requires
-refuse-requires c κs =
-    search needs
+refuse-requires c κs = search needs
 
 same-length : tie.Need-same-length
-same-length c =
-    search needs
+same-length c = search needs
 
 same-length-2 : tie.Need-same-length-2
-same-length-2 c =
-    search needs
+same-length-2 c = search needs
 
 returns : tie.Need-returns
 returns c =
@@ -55,12 +49,10 @@ returns c =
     (call .evaluate-given .ensures)
 
 same-length-3 : tie.Need-same-length-3
-same-length-3 c =
-    search needs
+same-length-3 c = search needs
 
 same-length-4 : tie.Need-same-length-4
-same-length-4 c =
-    search needs
+same-length-4 c = search needs
 
 returns-2 : tie.Need-returns-2
 returns-2 c =

@@ -1,5 +1,5 @@
--- `settle::evaluate_rise_fall` meets its contract: the checks of the file and the arrivals, and then the list's check and
--- the evaluation of an accepted file. Assumes nothing.
+-- `settle::evaluate_rise_fall` meets its contract: the checks of the file and the arrivals, and then the list's check
+-- and the evaluation of an accepted file. Assumes nothing.
 use mathlib.Core.Path.{_≡_, sym, _∙_}
 use Rattle.netlist.specs.Netlist.{apart}
 use borrow.Author.Needs.{needs}
@@ -62,8 +62,8 @@ returns-2 c =
     let after = known .before .before in
     let s = start after in
     rw
-    (L.of-rejected (s .args .file .now) (s .args .arrivals .now) (apart (s .args .falls .now)) (s .args .vector .now) (length (s .args .values .now))
-    (length (s .args .times .now)) _ (sym (asked after) ∙ known .opened2 .given .1))
+    (L.of-rejected (s .args .file .now) (s .args .arrivals .now) (apart (s .args .falls .now)) (s .args .vector .now)
+    (length (s .args .values .now)) (length (s .args .times .now)) _ (sym (asked after) ∙ known .opened2 .given .1))
     (call .refuse .ensures)
 
 pub evaluate-rise-fall-spec : {M : Type 1} → statement M

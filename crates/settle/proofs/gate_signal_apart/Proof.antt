@@ -1,5 +1,5 @@
--- `settle::gate_signal_apart` meets its contract: each arm calls the function of its kind, and a kind takes its own number of
--- pins. Assumes nothing.
+-- `settle::gate_signal_apart` meets its contract: each arm calls the function of its kind, and a kind takes its own
+-- number of pins. Assumes nothing.
 use borrow.Author.Needs.{needs}
 use Rattle.netlist.proofs.Valid.{takes-parity, takes-mux}
 use Rattle.settle.proofs.Pins as L

@@ -1,6 +1,5 @@
 -- `settle::mux_signal_apart` meets its contract: the three pins' values say where the gate ends, and their signals for
 -- this end make the gate's, by select's value. Assumes nothing.
-use mathlib.Core.Path.{sym, _∙_}
 use Prim.Native.Nat.{_+_}
 use Rattle.netlist.specs.File.{pinAt}
 use Rattle.settle.specs.Steps.{pinSignal}
@@ -13,21 +12,24 @@ use Rattle.settle.proofs.mux_signal_apart.Tie as tie
 
 pin-value-requires : tie.Need-pin-value-requires
 pin-value-requires c κs =
-    let s = c .before .before .before .before in L.wired-driver (s .pre .0) (s .args .first) (omega arith) (omega arith)
+    let s = c .before .before .before .before in
+    L.wired-driver (s .pre .0) (s .args .first) (omega arith) (omega arith)
 
 add-pin-value : tie.Need-add-pin-value
 add-pin-value c = search needs
 
 pin-value-requires-2 : tie.Need-pin-value-requires-2
 pin-value-requires-2 c κs =
-    let s = c .before .before .before .before .before in L.wired-driver (s .pre .0) (s .args .first + 1) (omega arith) (omega arith)
+    let s = c .before .before .before .before .before in
+    L.wired-driver (s .pre .0) (s .args .first + 1) (omega arith) (omega arith)
 
 add-pin-value-2 : tie.Need-add-pin-value-2
 add-pin-value-2 c = search needs
 
 pin-value-requires-3 : tie.Need-pin-value-requires-3
 pin-value-requires-3 c κs =
-    let s = c .before .before .before .before .before .before in L.wired-driver (s .pre .0) (s .args .first + 2) (omega arith) (omega arith)
+    let s = c .before .before .before .before .before .before in
+    L.wired-driver (s .pre .0) (s .args .first + 2) (omega arith) (omega arith)
 
 chosen-value-requires : tie.Need-chosen-value-requires
 chosen-value-requires c κs = search needs
@@ -64,8 +66,7 @@ returns c =
     let a = b .before in
     let select = a .before in
     let ends = select .before in
-    let chooses = ends .before .before .before in
-    let s = chooses .before .before .before .before .before in
+    let s = ends .before .before .before .before .before .before .before .before in
     rw (
       c .chosen-signal .ensures,
       b .pin-signal-for3 .ensures,
@@ -73,8 +74,14 @@ returns c =
       select .pin-signal-for .ensures,
       L.three-pins,
     )
-    (Ends.apart-mux-one _ _ _ _ _ _ _ (sym (chooses .pin-value .ensures) ∙ c .before .if1 .taken)
-    (rw (c .before .if1 .taken) at (ends .chosen-value .ensures) ∙ ends .before .pin-value3 .ensures))
+    (Ends.apart-mux-one _ _ _ _ (pinAt (s .args .file .now) (s .args .shape) (s .args .first))
+    (pinAt (s .args .file .now) (s .args .shape) (s .args .first + 1))
+    (pinAt (s .args .file .now) (s .args .shape) (s .args .first + 2))
+    (ends .before .before .before .pin-value .ensures)
+    (ends .before .before .pin-value2 .ensures)
+    (ends .before .pin-value3 .ensures)
+    (ends .chosen-value .ensures)
+    (c .before .if1 .taken))
 
 chosen-signal-requires-2 : tie.Need-chosen-signal-requires-2
 chosen-signal-requires-2 c κs = search needs
@@ -86,8 +93,7 @@ returns-2 c =
     let a = b .before in
     let select = a .before in
     let ends = select .before in
-    let chooses = ends .before .before .before in
-    let s = chooses .before .before .before .before .before in
+    let s = ends .before .before .before .before .before .before .before .before in
     rw (
       c .chosen-signal2 .ensures,
       b .pin-signal-for3 .ensures,
@@ -95,8 +101,14 @@ returns-2 c =
       select .pin-signal-for .ensures,
       L.three-pins,
     )
-    (Ends.apart-mux-zero _ _ _ _ _ _ _ (sym (chooses .pin-value .ensures) ∙ c .before .if1 .left)
-    (rw (c .before .if1 .left) at (ends .chosen-value .ensures) ∙ ends .before .before .pin-value2 .ensures))
+    (Ends.apart-mux-zero _ _ _ _ (pinAt (s .args .file .now) (s .args .shape) (s .args .first))
+    (pinAt (s .args .file .now) (s .args .shape) (s .args .first + 1))
+    (pinAt (s .args .file .now) (s .args .shape) (s .args .first + 2))
+    (ends .before .before .before .pin-value .ensures)
+    (ends .before .before .pin-value2 .ensures)
+    (ends .before .pin-value3 .ensures)
+    (ends .chosen-value .ensures)
+    (c .before .if1 .left))
 
 pub mux-signal-apart-spec : {M : Type 1} → statement M
 mux-signal-apart-spec =

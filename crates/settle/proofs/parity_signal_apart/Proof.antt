@@ -13,18 +13,21 @@ use Rattle.settle.proofs.parity_signal_apart.Tie as tie
 
 pin-value-requires : tie.Need-pin-value-requires
 pin-value-requires c κs =
-    let s = c .before .before .before .before in L.wired-driver (s .pre .0) (s .args .first) (omega arith) (omega arith)
+    let s = c .before .before .before .before in
+    L.wired-driver (s .pre .0) (s .args .first) (omega arith) (omega arith)
 
 add-pin-value : tie.Need-add-pin-value
 add-pin-value c = search needs
 
 pin-value-requires-2 : tie.Need-pin-value-requires-2
 pin-value-requires-2 c κs =
-    let s = c .before .before .before .before .before in L.wired-driver (s .pre .0) (s .args .first + 1) (omega arith) (omega arith)
+    let s = c .before .before .before .before .before in
+    L.wired-driver (s .pre .0) (s .args .first + 1) (omega arith) (omega arith)
 
 pin-signal-for-requires : tie.Need-pin-signal-for-requires
 pin-signal-for-requires c κs =
-    let s = c .before .before .before .before .before .before in (L.wired-pin (s .pre .0) (s .args .first) (omega arith) (omega arith), s .pre .1)
+    let s = c .before .before .before .before .before .before in
+    (L.wired-pin (s .pre .0) (s .args .first) (omega arith) (omega arith), s .pre .1)
 
 add-pin-signal-for : tie.Need-add-pin-signal-for
 add-pin-signal-for c = search needs
@@ -48,7 +51,9 @@ returns c =
     rw (c .later .ensures, a .pin-signal-for .ensures, b .pin-signal-for2 .ensures, L.two-pins)
     (Ends.apart-parity _ _ _ _ (s .args .equal) (pinAt (s .args .file .now) (s .args .shape) (s .args .first))
     (pinAt (s .args .file .now) (s .args .shape) (s .args .first + 1))
-    (rw (first .pin-value .ensures, second .pin-value2 .ensures) refl))
+    (first .pin-value .ensures)
+    (second .pin-value2 .ensures)
+    refl)
 
 pub parity-signal-apart-spec : {M : Type 1} → statement M
 parity-signal-apart-spec =

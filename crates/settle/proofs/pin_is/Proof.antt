@@ -10,8 +10,7 @@ shared-slice-read-result : tie.Need-shared-slice-read-result
 shared-slice-read-result c = search needs
 
 returns : tie.Need-returns
-returns c =
-    rw (c .before .driver-at .ensures .0)
+returns c = rw (c .before .driver-at .ensures .0)
 
 pub pin-is-spec : {M : Type 1} → statement M
 pin-is-spec = tie.close (tie.spec driver-at-requires shared-slice-read-result returns)

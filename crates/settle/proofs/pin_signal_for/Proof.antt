@@ -30,7 +30,11 @@ shared-slice-read-t15 c =
 add-t16 : tie.Need-add-t16
 add-t16 c =
     let s = c .before .before .before .before .before .before .before .before in
-    omega (arith, s .pre .0 .early (c .before .before .before .driver-at .result), c .before .before .delay-for .ensures .1)
+    omega (
+      arith,
+      s .pre .0 .early (c .before .before .before .driver-at .result),
+      c .before .before .delay-for .ensures .1,
+    )
 
 returns : tie.Need-returns
 unfolding pinAt

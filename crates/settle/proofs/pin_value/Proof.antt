@@ -12,8 +12,7 @@ shared-slice-read-result c = search needs
 
 returns : tie.Need-returns
 unfolding pinAt
-returns c =
-    rw (c .before .driver-at .ensures .0)
+returns c = rw (c .before .driver-at .ensures .0)
 
 pub pin-value-spec : {M : Type 1} → statement M
 pin-value-spec = tie.close (tie.spec driver-at-requires shared-slice-read-result returns)

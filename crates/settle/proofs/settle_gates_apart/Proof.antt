@@ -1,5 +1,5 @@
--- `settle::settle_gates_apart` meets its contract: the slices hold the first nodes of the netlist's values and times, and
--- each gate's signal over these nodes is its own entry. Assumes nothing.
+-- `settle::settle_gates_apart` meets its contract: the slices hold the first nodes of the netlist's values and times,
+-- and each gate's signal over these nodes is its own entry. Assumes nothing.
 use mathlib.Core.Path.{sym}
 use Prim.Native.Nat.{_+_, _-_, _<_}
 use native.Mathlib.Omega.{arith}
@@ -24,15 +24,16 @@ within : (c : tie.In-loop Inv-loop μ-loop) →
     × (c .before .before .before .before .before .before .args .shape .inputs + c .before .loop .done
     < length (c .before .loop .times))
 within c =
-    let s = c .before .before .before .before .before .before in (
-      omega (arith, L.gating-values (s .pre .0) (s .pre .1) (apart (s .args .falls .now)) (s .pre .2 .1) (c .before .loop .inv), s .pre .1 .values-room),
-      omega (arith, L.gating-times (s .pre .0) (s .pre .1) (apart (s .args .falls .now)) (s .pre .2 .1) (c .before .loop .inv), s .pre .1 .times-room),
+    let s = c .before .before .before .before .before .before in
+    let inv = c .before .loop .inv in (
+      omega (arith, L.gating-values (s .pre .0) (s .pre .1) _ (s .pre .2 .1) inv, s .pre .1 .values-room),
+      omega (arith, L.gating-times (s .pre .0) (s .pre .1) _ (s .pre .2 .1) inv, s .pre .1 .times-room),
     )
 
 loop-holds : tie.Need-loop-holds Inv-loop μ-loop
 loop-holds c =
     let s = c .before .before .before .before in
-    L.gating-starts (s .pre .0) (s .pre .1) (apart (s .args .falls .now)) (s .pre .2 .1)
+    L.gating-starts (s .pre .0) (s .pre .1) _ (s .pre .2 .1)
 
 add-node : tie.Need-add-node Inv-loop μ-loop
 add-node c =
@@ -60,10 +61,10 @@ gate-signal-apart-requires c κs =
     let inv = c .before .before .before .before .loop .inv in
     let test = c .before .before .before .loop-test .taken in
     let gate = c .before .before .gate-at in (
-      L.gating-wired (s .pre .0) (s .pre .1) (apart (s .args .falls .now)) (s .pre .2 .1) inv test (gate .result) (gate .ensures .0),
-      L.gating-takes (s .pre .0) (s .pre .1) (apart (s .args .falls .now)) (s .pre .2 .1) inv test (gate .result) (gate .ensures .0),
+      L.gating-wired (s .pre .0) (s .pre .1) _ (s .pre .2 .1) inv test (gate .result) (gate .ensures .0),
+      L.gating-takes (s .pre .0) (s .pre .1) _ (s .pre .2 .1) inv test (gate .result) (gate .ensures .0),
       s .pre .2,
-      L.gating-binary (s .pre .0) (s .pre .1) (apart (s .args .falls .now)) (s .pre .2 .1) inv test (gate .result) (gate .ensures .0),
+      L.gating-binary (s .pre .0) (s .pre .1) _ (s .pre .2 .1) inv test (gate .result) (gate .ensures .0),
     )
 
 stored-requires : tie.Need-stored-requires Inv-loop μ-loop
@@ -90,7 +91,8 @@ loop-again : tie.Need-loop-again Inv-loop μ-loop
 loop-again c =
     let s = c .before .before .before .before .before .before .before .before .before .before .before in
     let gate = c .before .before .before .before .gate-at in
-    L.gating-more (s .pre .0) (s .pre .1) (apart (s .args .falls .now)) (s .pre .2 .1) (c .before .before .before .before .before .before .loop .inv)
+    L.gating-more (s .pre .0) (s .pre .1) _ (s .pre .2 .1)
+    (c .before .before .before .before .before .before .loop .inv)
     (c .before .before .before .before .before .loop-test .taken)
     (gate .result)
     (gate .ensures .0)
@@ -102,17 +104,17 @@ loop-again c =
 same-length : tie.Need-same-length Inv-loop μ-loop
 same-length c =
     let s = c .before .before .before .before .before .before in
-    L.gating-values (s .pre .0) (s .pre .1) (apart (s .args .falls .now)) (s .pre .2 .1) (c .before .loop .inv)
+    L.gating-values (s .pre .0) (s .pre .1) _ (s .pre .2 .1) (c .before .loop .inv)
 
 same-length-2 : tie.Need-same-length-2 Inv-loop μ-loop
 same-length-2 c =
     let s = c .before .before .before .before .before .before in
-    L.gating-times (s .pre .0) (s .pre .1) (apart (s .args .falls .now)) (s .pre .2 .1) (c .before .loop .inv)
+    L.gating-times (s .pre .0) (s .pre .1) _ (s .pre .2 .1) (c .before .loop .inv)
 
 returns : tie.Need-returns Inv-loop μ-loop
 returns c =
     let s = c .before .before .before .before .before .before in
-    L.gating-ends (s .pre .0) (s .pre .1) (apart (s .args .falls .now)) (s .pre .2 .1) (c .before .loop .inv) (c .loop-test .left)
+    L.gating-ends (s .pre .0) (s .pre .1) _ (s .pre .2 .1) (c .before .loop .inv) (c .loop-test .left)
 
 pub settle-gates-apart-spec : {M : Type 1} → statement M
 settle-gates-apart-spec =

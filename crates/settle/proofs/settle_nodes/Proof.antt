@@ -1,4 +1,5 @@
--- `settle::settle_nodes` meets its contract: the inputs' nodes, then the gates' behind them, by the form. Assumes nothing.
+-- `settle::settle_nodes` meets its contract: the inputs' nodes, then the gates' behind them, by the form. Assumes
+-- nothing.
 use Rattle.settle.proofs.Whole as L
 use borrow.Author.Needs.{needs}
 use Rattle.settle.proofs.settle_nodes.Statement.{statement}

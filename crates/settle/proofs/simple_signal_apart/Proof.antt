@@ -1,5 +1,5 @@
--- `settle::simple_signal_apart` meets its contract: the pins from `left` on are scanned, each with the delay that it has if
--- it counts, and `left` falls to 0. Assumes nothing.
+-- `settle::simple_signal_apart` meets its contract: the pins from `left` on are scanned, each with the delay that it
+-- has if it counts, and `left` falls to 0. Assumes nothing.
 use mathlib.Core.Path.{ap, sym, _∙_}
 use mathlib.Core.Bool.{not}
 use Prim.Native.Nat.{_+_, _-_}
@@ -24,16 +24,13 @@ stored-requires : tie.Need-stored-requires Inv-loop μ-loop
 stored-requires c κs = tt
 
 loop-holds : tie.Need-loop-holds Inv-loop μ-loop
-loop-holds c =
-    L.scanning-starts _ _ _ _ _ _ _ _
+loop-holds c = L.scanning-starts _ _ _ _ _ _ _ _
 
 sub-left : tie.Need-sub-left Inv-loop μ-loop
-sub-left c =
-    c .loop-test .taken
+sub-left c = c .loop-test .taken
 
 add-number : tie.Need-add-number Inv-loop μ-loop
-add-number c =
-    omega arith
+add-number c = omega arith
 
 pin-is-requires : tie.Need-pin-is-requires Inv-loop μ-loop
 pin-is-requires c κs =
@@ -50,12 +47,10 @@ pin-signal-for-requires c κs =
     )
 
 with-pin-requires : tie.Need-with-pin-requires Inv-loop μ-loop
-with-pin-requires c κs =
-    tt
+with-pin-requires c κs = tt
 
 loop-less : tie.Need-loop-less Inv-loop μ-loop
-loop-less c =
-    omega arith
+loop-less c = omega arith
 
 loop-again : tie.Need-loop-again Inv-loop μ-loop
 unfolding pinAt
