@@ -70,8 +70,9 @@ ROOM_FIRST = Joint("room for propagation is asked before LAST", "refute", "proof
 ))
 
 FEWER_PAIRS = Joint("more than 65,535 pairs are too many", "formula", "specs/Edges.antt", (
-    Text("pairs/specs/Pairs.antt", "2) 65536", "2) 65535"),
-    Text("pairs/src/lib.rt", "if half < 65536 { half } else { 65536 }", "if half < 65535 { half } else { 65535 }"),
+    Text("pairs/specs/Pairs.antt", "min (room / numbers) 65536", "min (room / numbers) 65535"),
+    Text("pairs/src/lib.rt", "smaller(numbers / 2, 65536)", "smaller(numbers / 2, 65535)"),
+    Text("pairs/src/lib.rt", "smaller(numbers / 3, 65536)", "smaller(numbers / 3, 65535)"),
 ))
 
 TO_THE_END = Joint("a reader with no clause left goes to the end", "reader", "specs/Edges.antt", (

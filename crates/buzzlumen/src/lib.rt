@@ -209,14 +209,7 @@ pub extern "C" fn buzzlumen_evaluate_rise_fall(
         (now (values .exit)) (now (times .exit))
         ⌝ }
 {
-    numbers_of_settled(settle::evaluate_rise_fall(
-        netlist,
-        arrivals,
-        falls,
-        vector,
-        values,
-        times,
-    ))
+    numbers_of_settled(settle::evaluate_rise_fall(netlist, arrivals, falls, vector, values, times))
 }
 
 // The formula that says that some output settles at the target or later, by these delays.
@@ -234,23 +227,16 @@ pub extern "C" fn buzzlumen_build_rise_fall(
         (length (now (pairs .entry))) (length (now (formula .entry)))) r (now (pairs .exit)) (now (formula .exit))
         ⌝ }
 {
-    numbers_of_built(formula::build_rise_fall(
-        netlist,
-        arrivals,
-        falls,
-        target,
-        pairs,
-        formula,
-    ))
+    numbers_of_built(formula::build_rise_fall(netlist, arrivals, falls, target, pairs, formula))
 }
 
-// Whether a delay is the circuit's largest settling time by this certificate, by these delays.
+// Whether the delay that is claimed is the circuit's largest settling time by this certificate, by these delays.
 #[no_mangle]
 pub extern "C" fn buzzlumen_judge_rise_fall(
     netlist: &[u8],
     arrivals: &[u32],
     falls: &[u32],
-    delay: u32,
+    claimed: u32,
     vector: &[u8],
     refutation: &[i32],
     values: &mut [u8],
@@ -260,7 +246,7 @@ pub extern "C" fn buzzlumen_judge_rise_fall(
     propagation: &mut [u8],
 ) -> Answer
     ensures { λ r. ⌜
-        Certifies (now (netlist .entry)) (now (arrivals .entry)) (apart (now (falls .entry))) delay
+        Certifies (now (netlist .entry)) (now (arrivals .entry)) (apart (now (falls .entry))) claimed
         (now (vector .entry)) (now (refutation .entry))
         (roomsOf (now (values .entry)) (now (times .entry)) (now (pairs .entry)) (now (formula .entry))
         (now (propagation .entry)))
@@ -271,7 +257,7 @@ pub extern "C" fn buzzlumen_judge_rise_fall(
         netlist,
         arrivals,
         falls,
-        delay,
+        claimed,
         vector,
         refutation,
         values,

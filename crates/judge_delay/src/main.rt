@@ -1,8 +1,8 @@
 // Judges a delay certificate. Standard input is the delay (4 bytes, little endian) and four lists, each behind its
 // length (4 bytes): the vector, one byte an input; the refutation, 4 bytes a number, two's complement, its length in
-// numbers; the netlist; the arrivals, 4 bytes an input, their length in numbers. Where 4 bytes more follow, they are the
-// length of a fifth: the delays of gates that end at 0, 4 bytes a pin. A list that is cut short is read as far as it
-// goes, and what stands behind the last counts for nothing. Prints `accepted` or `refused number place`. An
+// numbers; the netlist; the arrivals, 4 bytes an input, their length in numbers. Where 4 bytes more follow, they are
+// the length of a fifth: the delays of gates that end at 0, 4 bytes a pin. A list that is cut short is read as far as
+// it goes, and what stands behind the last counts for nothing. Prints `accepted` or `refused number place`. An
 // input of fewer than 8 bytes is `refused 1` and its length. Its room: an input of 524,288 bytes (a longer one:
 // `refused 9 524289`), 32,768 pairs (21,845 with rise and fall apart), a formula of 524,288 numbers, 100,000 variables.
 // What matters is the contract of certificate::judge and certificate::judge_rise_fall. Assumes nothing of its own.

@@ -1,5 +1,5 @@
--- A gate's pins with the delays for its final value, and with the larger ones: the same drivers, as many of them, delays
--- that are small; and the pins themselves where the list has their own delays. Laws: pins-for-length, pins-for-only,
+-- A gate's pins with the delays for its final value, and with the larger ones: the same drivers, as many of them,
+-- delays that are small; and the pins themselves where the list has their own delays. Laws: pins-for-length, pins-for-only,
 -- slowest-only, pins-for-equal, slowest-equal. Assumes nothing.
 use mathlib.Core.Path.{_≡_, refl, sym, ap, ap₂, _∙_}
 use mathlib.Core.Bool.{Bool, true, false}

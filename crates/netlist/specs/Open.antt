@@ -1,5 +1,5 @@
--- Rows 1 to 7, 16 and 19 of the table of refusals (rule T1), in the sequence of rules C3 and C4: no pin until all gates are
--- right, no output until all pins are, no arrival until the netlist is. Interface: netlistRows, openOf, listRows,
+-- Rows 1 to 7, 16 and 19 of the table of refusals (rule T1), in the sequence of rules C3 and C4: no pin until all gates
+-- are right, no output until all pins are, no arrival until the netlist is. Interface: netlistRows, openOf, listRows,
 -- arrivalRows, circuitRows, openCircuitOf, arrivedOf, fallRows, rowsOver, callOver.
 use mathlib.Core.Bool.{Bool, not, _&&_, _||_, cond}
 use mathlib.Core.List.{List, [], _∷_, _++_, map}

@@ -1,7 +1,7 @@
 // Prints values and settling times of a circuit under a vector. Standard input is three lists, each behind its length
 // (4 bytes, little endian): the vector, one byte an input; the netlist; the arrivals, 4 bytes an input, their length in
-// numbers. Where 4 bytes more follow, they are the length of a fourth: the delays of gates that end at 0, 4 bytes a pin.
-// A list that is cut short is read as far as it goes, and what stands behind the last counts for nothing.
+// numbers. Where 4 bytes more follow, they are the length of a fourth: the delays of gates that end at 0, 4 bytes a
+// pin. A list that is cut short is read as far as it goes, and what stands behind the last counts for nothing.
 // Prints `settled T`, then a line `node value time` for each node; or `refused number place`. An input of fewer than 4
 // bytes is `refused 1` and its length. Its room: an input of 65,536 bytes (a longer one: `refused 9 65537`). What
 // matters is the contract of settle::evaluate and settle::evaluate_rise_fall. Assumes nothing of its own.
