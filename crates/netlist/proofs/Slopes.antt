@@ -1,6 +1,6 @@
 -- A gate's pins with the delays for its final value, and with the larger ones: the same drivers, as many of them,
--- delays that are small; and the pins themselves where the list has their own delays. Laws: pins-for-length, pins-for-only,
--- slowest-only, pins-for-equal, slowest-equal. Assumes nothing.
+-- delays that are small; and the pins themselves where the list has their own delays. Laws: pins-for-length,
+-- pins-for-only, slowest-only, pins-for-equal, slowest-equal. Assumes nothing.
 use mathlib.Core.Path.{_≡_, refl, sym, ap, ap₂, _∙_}
 use mathlib.Core.Bool.{Bool, true, false}
 use mathlib.Core.List.{List, [], _∷_, map, List·Memᴰ, List·Memᴰ·head, List·Memᴰ·tail}

@@ -1,5 +1,6 @@
 -- What `evaluate` and `evaluate_rise_fall` answer and leave in the two lent slices, for every input: 1..7, 16, 19 and
--- 8, then 9 for values, then for times. Interface: evaluation, Meets.
+-- 8, then 9 for values, then for times.
+-- Interface: evaluation, Meets.
 use mathlib.Core.Path.{_≡_}
 use mathlib.Core.Bool.{Bool}
 use mathlib.Core.List.{List, [], _∷_, _++_, map}
