@@ -43,23 +43,24 @@ module _ (file arrivals : List ℕ) (slopes : Slopes) (delay : ℕ) (vector : Li
     {values times pairs : List ℕ} {formula : List ℤ} {propagation : List ℕ} {a : Answer}
     {values′ times′ pairs′ : List ℕ} {formula′ : List ℤ} {propagation′ : List ℕ} {b : Answer}
     (p : Certifies file arrivals slopes delay vector refutation rooms values times pairs formula propagation a)
-    (q : Certifies file arrivals slopes delay vector refutation rooms values′ times′ pairs′ formula′ propagation′ b) where
-  one : leaving (p .answer) values times pairs formula propagation
-      ≡ leaving (q .answer) values′ times′ pairs′ formula′ propagation′
-  one = judges-unique file arrivals slopes delay vector refutation rooms _ _ (p .judges) (q .judges)
+    (q : Certifies file arrivals slopes delay vector refutation rooms values′ times′ pairs′ formula′ propagation′ b)
+  where
+    one : leaving (p .answer) values times pairs formula propagation
+        ≡ leaving (q .answer) values′ times′ pairs′ formula′ propagation′
+    one = judges-unique file arrivals slopes delay vector refutation rooms _ _ (p .judges) (q .judges)
 
-  pub certifies-unique :
-      (a ≡ b)
-      × (values ≡ values′)
-      × (times ≡ times′)
-      × (pairs ≡ pairs′)
-      × (formula ≡ formula′)
-      × (propagation ≡ propagation′)
-  certifies-unique = (
-    p .is ∙ ap (λ (j : Judgement). checkedOf (j .answer)) one ∙ sym (q .is),
-    ap (λ (j : Judgement). j .values) one,
-    ap (λ (j : Judgement). j .times) one,
-    ap (λ (j : Judgement). j .pairs) one,
-    ap (λ (j : Judgement). j .formula) one,
-    ap (λ (j : Judgement). j .propagation) one,
-  )
+    pub certifies-unique :
+        (a ≡ b)
+        × (values ≡ values′)
+        × (times ≡ times′)
+        × (pairs ≡ pairs′)
+        × (formula ≡ formula′)
+        × (propagation ≡ propagation′)
+    certifies-unique = (
+      p .is ∙ ap (λ (j : Judgement). checkedOf (j .answer)) one ∙ sym (q .is),
+      ap (λ (j : Judgement). j .values) one,
+      ap (λ (j : Judgement). j .times) one,
+      ap (λ (j : Judgement). j .pairs) one,
+      ap (λ (j : Judgement). j .formula) one,
+      ap (λ (j : Judgement). j .propagation) one,
+    )

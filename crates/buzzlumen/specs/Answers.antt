@@ -70,8 +70,9 @@ Small (Unbuilt refusal) = Unit {0}
 
 -- the numbers of a certificate call's answer and what it leaves in the lent slices; number 0 means that the delay is
 -- the largest settling time
-pub record Certifies (file arrivals : List ℕ) (slopes : Slopes) (delay : ℕ) (vector : List ℕ) (refutation : List ℤ) (rooms : Rooms)
-    (values times pairs : List ℕ) (formula : List ℤ) (propagation : List ℕ) (numbers : Answer) : Type 0 where
+pub record Certifies (file arrivals : List ℕ) (slopes : Slopes) (delay : ℕ) (vector : List ℕ) (refutation : List ℤ)
+    (rooms : Rooms) (values times pairs : List ℕ) (formula : List ℤ) (propagation : List ℕ) (numbers : Answer) :
+    Type 0 where
   pub answer : Checked
   pub judges : Judges file arrivals slopes delay vector refutation rooms
       (leaving answer values times pairs formula propagation)

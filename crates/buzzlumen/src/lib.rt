@@ -171,7 +171,8 @@ pub extern "C" fn buzzlumen_judge(
     propagation: &mut [u8],
 ) -> Answer
     ensures { λ r. ⌜
-        Certifies (now (netlist .entry)) (now (arrivals .entry)) alike delay (now (vector .entry)) (now (refutation .entry))
+        Certifies (now (netlist .entry)) (now (arrivals .entry)) alike delay (now (vector .entry))
+        (now (refutation .entry))
         (roomsOf (now (values .entry)) (now (times .entry)) (now (pairs .entry)) (now (formula .entry))
         (now (propagation .entry)))
         (now (values .exit)) (now (times .exit)) (now (pairs .exit)) (now (formula .exit)) (now (propagation .exit)) r

@@ -1,15 +1,22 @@
 -- A gate's pins with the delays for its final value, and with the larger ones: the same drivers, as many of them,
--- delays that are small; and the pins themselves where the list has their own delays. Laws: pins-for-length,
--- pins-for-only, slowest-only, pins-for-equal, slowest-equal. Assumes nothing.
+-- delays that are small; and the pins themselves where the list has their own delays. And a list of so many small
+-- delays passes row 19. Laws: pins-for-length, pins-for-only, slowest-only, pins-for-equal, slowest-equal, small-
+-- passes. Assumes nothing.
 use mathlib.Core.Path.{_≡_, refl, sym, ap, ap₂, _∙_}
 use mathlib.Core.Bool.{Bool, true, false}
 use mathlib.Core.List.{List, [], _∷_, map, List·Memᴰ, List·Memᴰ·head, List·Memᴰ·tail}
 use Prim.Native.Nat.{ℕ, suc, _≤_, max}
+use borrow.Author.Tests.{eq-eqb, le-ltb}
+use lib.Dec.{ltb}
 use native.Mathlib.Omega.{arith}
 use lib.ListN.{length, getD}
 use Rattle.basics.proofs.Lists.{map-mem}
 use Rattle.netlist.specs.Netlist.{Pin, Slopes, alike, apart, delayed, fallOf, pinsFor, slowest}
+use Rattle.refusal.specs.declared.Checked.the-variants.{Passes}
+use Rattle.refusal.specs.Rows.{checked}
+use Rattle.netlist.specs.Open.{firstWrong, fallRows}
 use Rattle.netlist.specs.Holds.{Small}
+use Rattle.netlist.proofs.FirstWrong.{first-none, first-later}
 
 -- a list of pins with other delays
 module _ (delay : Pin → ℕ) where
@@ -69,3 +76,18 @@ module _ (falls : List ℕ) (ps : List Pin) (same : (p : Pin) → List·Memᴰ p
   pub slowest-equal : slowest (apart falls) ps ≡ ps
   slowest-equal =
       delayed-same (λ p. max (p .delay) (fallOf falls p)) ps (λ p m. let e = same p m in omega arith)
+
+-- ---- row 19
+
+-- where no entry is over a bound, none is wrong
+none-over : (most : ℕ) (l : List ℕ) → ((k : ℕ) → getD l k 0 ≤ most) → firstWrong (ltb most) l ≡ length l
+none-over most [] small = first-none (ltb most)
+none-over most (x ∷ l) small =
+    first-later (ltb most) x l (le-ltb most x (small 0)) ∙ ap suc (none-over most l (λ k. small (suc k)))
+
+-- so many small delays pass
+pub small-passes : (pins : ℕ) (falls : List ℕ) → length falls ≡ pins → Small (apart falls) →
+    checked (fallRows pins falls) ≡ Passes
+unfolding fallRows
+small-passes pins falls long small =
+    rw (none-over 999 falls small, long, eq-eqb pins pins refl, le-ltb pins pins (omega arith)) refl

@@ -1,5 +1,5 @@
--- `buzzlumen::buzzlumen_build_rise_fall` meets its contract: what `formula::build_rise_fall` promises, with the answer as numbers.
--- Assumes nothing.
+-- `buzzlumen::buzzlumen_build_rise_fall` meets its contract: what `formula::build_rise_fall` promises, with the answer
+-- as numbers. Assumes nothing.
 use Rattle.buzzlumen.proofs.Small.{small}
 use Rattle.buzzlumen.specs.Answers.{formedOf}
 use mathlib.Core.Path.{ap, _∙_}

@@ -1,5 +1,5 @@
--- `buzzlumen::buzzlumen_evaluate_rise_fall` meets its contract: what `settle::evaluate_rise_fall` promises, with the answer as numbers.
--- Assumes nothing.
+-- `buzzlumen::buzzlumen_evaluate_rise_fall` meets its contract: what `settle::evaluate_rise_fall` promises, with the
+-- answer as numbers. Assumes nothing.
 use Rattle.buzzlumen.specs.Answers.{evaluatedOf}
 use mathlib.Core.Path.{ap, _∙_}
 use borrow.Author.Needs.{needs}

@@ -1,5 +1,5 @@
--- `buzzlumen::buzzlumen_judge_rise_fall` meets its contract: what `certificate::judge_rise_fall` promises, with the answer as numbers.
--- Assumes nothing.
+-- `buzzlumen::buzzlumen_judge_rise_fall` meets its contract: what `certificate::judge_rise_fall` promises, with the
+-- answer as numbers. Assumes nothing.
 use Rattle.buzzlumen.proofs.Largest.{only-accepted}
 use Rattle.buzzlumen.specs.declared.Answer.{Answer}
 use mathlib.Core.Path.{sym, ap, _∙_}
