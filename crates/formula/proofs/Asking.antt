@@ -8,7 +8,6 @@ use mathlib.Core.List.{
   _∷_,
   _++_,
   map,
-  map-map,
   append-assoc,
   append-nil,
   List·Memᴰ,
@@ -18,7 +17,6 @@ use mathlib.Core.List.{
 use Prim.Native.Nat.{ℕ, zero, suc, _+_, _-_, _*_, _≤_, _<_}
 use native.Mathlib.Omega.{arith}
 use native.Mathlib.Decide.{decLt}
-use native.Mathlib.Numerals.{add-one}
 use lib.Dec.{eqb}
 use lib.ListN.{length, getD, take, set, length-set}
 use lib.Seq.{getD-set-same, getD-set-other}
@@ -28,11 +26,10 @@ use Rattle.basics.proofs.Lists.{any-append, any-concatMap, concatMap-append}
 use Rattle.netlist.specs.declared.Shape.{Shape}
 use Rattle.netlist.specs.declared.Form.{Form}
 use Rattle.netlist.specs.declared.Form.the-variants.{Single, RiseFall}
-use Rattle.netlist.specs.Netlist.{Pin, slopesBy, apart, delayed, fallOf, pinsFor}
+use Rattle.netlist.specs.Netlist.{Pin, slopesBy}
 use Rattle.netlist.specs.File.{driverAt, outputAt, pinAt, pinsFrom, netlistAt}
 use Rattle.netlist.proofs.Ranges.{upFrom-append}
 use Rattle.settle.specs.Settling.{Cube, cubes}
-use Rattle.pairs.specs.Rails.{Rail}
 use Rattle.pairs.specs.Table.{pairsIn}
 use Rattle.pairs.specs.Promise.{Begins}
 use Rattle.pairs.proofs.Search.{begins-at}
@@ -40,7 +37,7 @@ use Rattle.formula.specs.declared.Asked.{Asked}
 use Rattle.formula.specs.declared.Share.{Share}
 use Rattle.formula.specs.declared.Share.the-variants.{Forced, Driver, Control}
 use Rattle.formula.specs.declared.Side.{Side}
-use Rattle.formula.specs.declared.Side.the-variants.{Pins, Falls, Outputs}
+use Rattle.formula.specs.declared.Side.the-variants.{Pins, Outputs}
 use Rattle.netlist.specs.declared.Kind.{Kind}
 use Rattle.netlist.specs.declared.Kind.the-variants.{Simple, Parity, Mux}
 use Rattle.formula.specs.Formula.{Part, literal, isSure, clauseOf, nodeVariable, gateClauses}
@@ -227,7 +224,8 @@ pub reads-more : {file : List ℕ} {l : Lent} {form : Form} {falls : List ℕ} {
     time ≡ t - entryAt file (l .shape) falls side (first + i) .delay → asked ≡ askedBy form l node time →
     nodes′ ≡ set nodes i (asked .node) → lates′ ≡ keptBy form lates i asked →
     Reads file l form falls side first (i + 1) t nodes′ lates′ (some || eqb (asked .late) 1)
-reads-more {file} {l} {form} {falls} {side} {first} {i} {t} {nodes} {lates} {nodes′} {lates′} {some} asked r h d e c n m =
+reads-more {file} {l} {form} {falls} {side} {first} {i} {t} {nodes} {lates} {nodes′} {lates′} {some} asked r h d e c
+    n m =
     let f : asked ≡ askedAt file l form falls side t (first + i) = c ∙ ap₂ (askedBy form l) d e in
     let test : ℕ → Bool = λ entry. any isSure (lateAt file l form falls side t entry) in
     record {

@@ -9,7 +9,7 @@ use lib.Dec.{leb}
 use Rattle.netlist.specs.Netlist.{Netlist, atZero, alike}
 use Rattle.settle.specs.Settling.{topOf}
 use Rattle.settle.proofs.Nodes.{zero-top}
-use Rattle.formula.specs.Formula.{Part, sure, never, late}
+use Rattle.formula.specs.Formula.{sure, never, late}
 
 pub zero-late : {X : Type 0} (net : Netlist) (node : ℕ → X) (pair : ℕ → ℕ → X) (n rail t : ℕ) → n < net .inputs →
     late alike (net .inputs) (topOf (atZero net)) node pair n rail t ≡ cond (leb t 0) sure never

@@ -9,7 +9,7 @@ use lib.Dec.{leb, ltb, eqb}
 use lib.ListN.{length, getD, take}
 use borrow.Author.Tests.{lt-ltb, le-ltb, le-leb, lt-leb, ne-eqb}
 use Rattle.basics.specs.Lists.{any, concatMap}
-use Rattle.basics.proofs.Lists.{any-append, any-concatMap, concatMap-append}
+use Rattle.basics.proofs.Lists.{any-append, concatMap-append}
 use Rattle.netlist.specs.declared.Form.{Form}
 use Rattle.netlist.specs.declared.Form.the-variants.{Single, RiseFall}
 use Rattle.netlist.specs.Netlist.{Pin, slopesBy}
@@ -33,7 +33,7 @@ use Rattle.formula.specs.Formula.{
 }
 use Rattle.formula.specs.declared.Asked.{Asked}
 use Rattle.formula.specs.declared.Share.the-variants.{Control}
-use Rattle.formula.specs.Emission.{Token, ended, wants, tokensOf, codeRun, nodeIs, literalRun, shareRun, cubeRun}
+use Rattle.formula.specs.Emission.{Token, ended, wants, tokensOf, codeRun, literalRun, shareRun, cubeRun}
 use Rattle.formula.specs.Late.{
   Lent,
   partCode,

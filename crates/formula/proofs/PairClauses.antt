@@ -3,17 +3,16 @@
 use mathlib.Core.Path.{_≡_, refl, sym, ap, ap₂, _∙_, subst}
 use mathlib.Core.Bool.{Bool, true, false, cond}
 use mathlib.Core.List.{List, [], _∷_, _++_, map, map-map, append-assoc}
-use Prim.Native.Nat.{ℕ, suc, _+_, _-_, _*_, _/_, _≤_, _<_}
+use Prim.Native.Nat.{ℕ, suc, _+_, _-_, _*_, _/_, _<_}
 use native.Mathlib.Omega.{arith}
 use native.Mathlib.Numerals.{add-one}
-use lib.ListN.{length, getD}
+use lib.ListN.{getD}
 use Rattle.basics.specs.Lists.{concatMap, upFrom}
 use Rattle.netlist.specs.declared.Form.{Form}
 use Rattle.netlist.specs.declared.Form.the-variants.{Single, RiseFall}
 use Rattle.netlist.specs.declared.Kind.{Kind}
 use Rattle.netlist.specs.declared.Kind.the-variants.{Mux}
 use Rattle.netlist.specs.declared.Gate.{Gate}
-use Rattle.netlist.specs.declared.Shape.{Shape}
 use Rattle.netlist.specs.Netlist.{Pin, Slopes, slopesBy, apart, pinsFor, delayed, fallOf}
 use Rattle.netlist.specs.File.{gateAt, pinAt, cellOf, cellAt, pinsFrom}
 use Rattle.netlist.specs.Holds.{Holds}
@@ -22,7 +21,6 @@ use Rattle.netlist.proofs.Valid.{takes-few}
 use Rattle.clauses.specs.Clauses.{Literal}
 use Rattle.settle.specs.Settling.{Cube, cubes}
 use Rattle.pairs.specs.Rails.{Rail}
-use Rattle.pairs.specs.Pairs.{pairPlace}
 use Rattle.pairs.specs.Table.{pairsIn, pairAt}
 use Rattle.pairs.proofs.Flat.{pairs-at}
 use Rattle.formula.specs.declared.Pair.{Pair}
@@ -34,7 +32,6 @@ use Rattle.formula.specs.Emission.{
   wants,
   ended,
   tokensOf,
-  nodeIs,
   railsFor,
   railValue,
   lateRun,
@@ -164,7 +161,8 @@ module _ (file : List ℕ) (l : Lent) (falls : List ℕ) (first count t : ℕ) w
 -- what is put for a pair are the definition's clauses
 pub pair-read : {file : List ℕ} {l : Lent} {form : Form} {falls : List ℕ} {side : Side} {first count t : ℕ}
     {nodes lates : List ℕ} {some : Bool} {codes : ℕ} (rail : ℕ) (kind : Kind) (pair : ℕ) →
-    Reads file l form falls side first count t nodes lates some → codes ≡ railsFor form count → side ≡ sideOf form rail →
+    Reads file l form falls side first count t nodes lates some → codes ≡ railsFor form count → side ≡ sideOf form
+    rail →
     pair ≡ variableIn l rail t → (kind ≡ Mux → count ≡ 3) →
     (fixedRun form rail pair ++ lateRun (pair * 2) codes lates some) ++ controlRun form kind pair nodes lates count
     ≡ clausesIn l (slopesBy form falls) (railWith form falls rail kind (pinsFrom file (l .shape) first count)) t
@@ -175,7 +173,8 @@ pair-read {file} {l} {form} {falls} {side} {first} {count} {t} {nodes} {lates} {
     (controlRun form kind pair nodes lates count)
     ∙ ap (λ (c : ℕ). fixedRun form rail pair
     ++ (lateRun (pair * 2) c lates some ++ controlRun form kind pair nodes lates count)) n
-    ∙ ap₂ (λ (x y : List Token). fixedRun form rail pair ++ (x ++ y)) (late-drivers r pair w) (control-read r kind pair m)
+    ∙ ap₂ (λ (x y : List Token). fixedRun form rail pair ++ (x ++ y)) (late-drivers r pair w)
+    (control-read r kind pair m)
     ∙ ap₂ (λ (s : Side) (n : ℕ).
     fixedRun form rail n
     ++ (driversLate l (slopesBy form falls) n (map (entryAt file (l .shape) falls s) (upFrom first count)) t

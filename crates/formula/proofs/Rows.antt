@@ -14,7 +14,7 @@ use Rattle.refusal.specs.declared.Checked.the-variants.{Passes, Refused as Fail
 use Rattle.netlist.specs.declared.Shape.{Shape}
 use Rattle.netlist.specs.declared.Opened.the-variants.{Accepted, Refused as Rejected}
 use Rattle.netlist.specs.declared.Form.{Form}
-use Rattle.netlist.specs.Netlist.{nodeCount, Circuit, Slopes, slopesBy, apart}
+use Rattle.netlist.specs.Netlist.{nodeCount, Circuit, Slopes, slopesBy}
 use Rattle.netlist.specs.File.{netlistAt, circuitWith}
 use Rattle.netlist.specs.Open.{openCircuitOf, slopeRows}
 use Rattle.netlist.specs.Holds.{Given, Sloped}
@@ -90,7 +90,8 @@ module _ (file : List ℕ) (shape : Shape) (arrivals : List ℕ) (form : Form) (
   abbrev listed : List (ℕ × ℕ)
   listed = pairsAt file shape arrivals (slopesBy form falls) target
 
-  module _ (table : List ℕ) (count : ℕ) (held : Held (slopesBy form falls) listed (length table) table (Count count)) where
+  module _ (table : List ℕ) (count : ℕ) (held : Held (slopesBy form falls) listed (length table) table
+      (Count count)) where
     -- two numbers a pair fit the table, and there are not too many
     pub few-held : (count * 2 ≤ length table) × (count ≤ 65536)
     few-held =

@@ -6,7 +6,6 @@ use mathlib.Core.List.{List, [], _∷_, List·Memᴰ, List·Memᴰ·head, List·
 use Prim.Native.Nat.{ℕ, zero, suc, _+_, _-_, _*_, _/_, _%_, _≤_, _<_}
 use native.Mathlib.Omega.{arith}
 use native.Mathlib.Decide.{decLt}
-use lib.Dec.{eqb}
 use lib.ListN.{length, getD}
 use lib.Seq.{take-all}
 use borrow.Author.Tests.{eqb-true, eqb-false}
@@ -21,7 +20,7 @@ use Rattle.netlist.specs.Holds.{Given, Sloped}
 use Rattle.netlist.proofs.Entries.{node-count, net-inputs, node-has, pin-has, output-has}
 use Rattle.settle.specs.Settling.{topsOf}
 use Rattle.settle.proofs.Nodes.{tops-length}
-use Rattle.pairs.specs.Rails.{railsOf, railCount, nodeOf, Rail, railsAt}
+use Rattle.pairs.specs.Rails.{railsOf, nodeOf, Rail, railsAt}
 use Rattle.pairs.specs.Pairs.{flatPairs, pairPlace}
 use Rattle.pairs.specs.Table.{pairAt, keyOf, Sorted}
 use Rattle.pairs.specs.Promise.{pairsAt, Lists}
@@ -247,7 +246,8 @@ module _ (file : List ℕ) (shape : Shape) (arrivals : List ℕ) (form : Form) (
               (λ x y z other i.
               driver-for circuit (given .holds .valid) target (node, cell) cell-here
               (railWith form falls rail (cell .kind) (cell .pins)) (rail-in falls form rail cell) t
-              (subst (λ (n : ℕ). List·Memᴰ (n, t) listed) (sym (rail-numbered falls form rail (cell .kind) (cell .pins)))
+              (subst (λ (n : ℕ). List·Memᴰ (n, t) listed) (sym (rail-numbered falls form rail (cell .kind)
+              (cell .pins)))
               m) p
               (rail-entry falls file shape form rail (cell .kind) (cell .pins) pin (pin-has file shape g pin low high))
               x y z other i);

@@ -8,8 +8,8 @@ use Rattle.formula.specs.declared.Built.{Built}
 use Rattle.formula.specs.Promise.{Meets, building}
 use Rattle.netlist.specs.Netlist.{Slopes}
 
-pub build-unique : (file arrivals : List ℕ) (slopes : Slopes) (target pairsRoom formulaRoom : ℕ) (answer answer′ : Built)
-    (pairs pairs′ : List ℕ) (formula formula′ : List ℤ) →
+pub build-unique : (file arrivals : List ℕ) (slopes : Slopes) (target pairsRoom formulaRoom : ℕ)
+    (answer answer′ : Built) (pairs pairs′ : List ℕ) (formula formula′ : List ℤ) →
     Meets (building file arrivals slopes target pairsRoom formulaRoom) answer pairs formula →
     Meets (building file arrivals slopes target pairsRoom formulaRoom) answer′ pairs′ formula′ →
     (answer ≡ answer′) × ((pairs ≡ pairs′) × (formula ≡ formula′))

@@ -16,7 +16,6 @@ use mathlib.Core.List.{
 }
 use Prim.Native.Nat.{ℕ, zero, suc, _+_, _-_, _*_, _/_, _%_}
 use native.Mathlib.Omega.{arith}
-use lib.Dec.{eqb}
 use lib.ListN.{length, getD, length-append}
 use borrow.Author.Tests.{eq-eqb, ne-eqb}
 use Rattle.basics.specs.Lists.{concatMap, upFrom, numbered}
@@ -24,7 +23,7 @@ use Rattle.basics.proofs.Lists.{concatMap-append}
 use Rattle.netlist.specs.declared.Form.{Form}
 use Rattle.netlist.specs.declared.Form.the-variants.{Single, RiseFall}
 use Rattle.netlist.specs.declared.Shape.{Shape}
-use Rattle.netlist.specs.Netlist.{Cell, Pin, nodes, Slopes, alike, apart, slopesBy, pinsFor, Circuit}
+use Rattle.netlist.specs.Netlist.{Cell, nodes, Slopes, alike, apart, slopesBy, pinsFor, Circuit}
 use Rattle.netlist.specs.File.{cellAt, netlistAt, circuitWith}
 use Rattle.netlist.proofs.Entries.{node-count, node-only}
 use Rattle.clauses.specs.Clauses.{Literal}

@@ -118,6 +118,7 @@ unfolding
     circuitA netlistRows arrivalRows firstWrong countWrong backWrong pinsBefore gateWrong gatePlace sumWrong pinsAt
     pinWrong
     pinPlace outputWrong outputPlace pinsFit kindOf tableBytes shapeOf gateAt pinAt pinsFrom cellOf cellAt
-    netlistAt grow topsOf flat asked timesAt pairList flatPairs lentPairs pairsFor pairPlace clauseOf gateClauses late pairClauses
+    netlistAt grow topsOf flat asked timesAt pairList flatPairs lentPairs pairsFor pairPlace clauseOf gateClauses
+    late pairClauses
     formula pairVariable formulaFor numbersFor countsFor built buildingRows building printed gateLines cases
 hold = refl

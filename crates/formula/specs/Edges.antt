@@ -56,15 +56,15 @@ pub record Case : Type 0 where
   pub leaves : Building
 
 -- a literal: n, or -n
-abbrev on : ℕ → ℤ
+abbrev pub on : ℕ → ℤ
 on n = pos n
 
-abbrev off : ℕ → ℤ
+abbrev pub off : ℕ → ℤ
 off (suc n) = negsuc n
 off zero = pos 0
 
 -- clauses, each with its 0
-abbrev lines : List (List ℤ) → List ℤ
+abbrev pub lines : List (List ℤ) → List ℤ
 lines clauses = concatMap (λ (c : List ℤ). c ++ (pos 0 ∷ [])) clauses
 
 -- file, arrivals, target; variables, count of clauses, the table of pairs, the numbers
@@ -219,7 +219,8 @@ unfolding
     arrivalRows
     firstWrong countWrong
     backWrong pinsBefore gateWrong gatePlace sumWrong pinsAt pinWrong pinPlace outputWrong outputPlace pinsFit kindOf
-    tableBytes shapeOf gateAt pinAt pinsFrom cellOf cellAt netlistAt grow topsOf flat asked timesAt pairList flatPairs lentPairs
+    tableBytes shapeOf gateAt pinAt pinsFrom cellOf cellAt netlistAt grow topsOf flat asked timesAt pairList
+    flatPairs lentPairs
     pairsFor pairPlace clauseOf gateClauses late pairClauses formula pairVariable formulaFor numbersFor countsFor
     built buildingRows building printed gateLines
 edges-hold = refl

@@ -1,8 +1,8 @@
 -- What serves the code that writes the pairs' clauses: lateness by what is lent to it, as one code a rail, and what the
 -- code leans on.
 use mathlib.Core.Path.{_≡_}
-use mathlib.Core.Bool.{Bool, true, false, cond}
-use mathlib.Core.List.{List, [], _∷_, _++_, map, List·Memᴰ}
+use mathlib.Core.Bool.{Bool, false, cond}
+use mathlib.Core.List.{List, [], _∷_, _++_, List·Memᴰ}
 use Prim.Native.Nat.{ℕ, suc, _+_, _-_, _*_, _/_, _≤_, _<_}
 use lib.Dec.{T}
 use lib.ListN.{length, getD, take, set}
@@ -13,7 +13,7 @@ use Rattle.netlist.specs.declared.Kind.{Kind}
 use Rattle.netlist.specs.declared.Shape.{Shape}
 use Rattle.netlist.specs.declared.Gate.{Gate}
 use Rattle.netlist.specs.Netlist.{Pin, Slopes, alike, apart, slopesBy, delayed, fallOf, pinsFor, takes}
-use Rattle.netlist.specs.File.{firstAt, countAt, outputAt, pinAt, pinsFrom, cellAt, netlistAt}
+use Rattle.netlist.specs.File.{firstAt, countAt, outputAt, pinAt, cellAt, netlistAt}
 use Rattle.clauses.specs.Codes.{literalCode}
 use Rattle.settle.specs.Settling.{Cube}
 use Rattle.pairs.specs.Rails.{Rail}
@@ -108,8 +108,8 @@ pinLate l slopes = driverLate slopes (l .shape .inputs) (topIn (l .tops)) nodeVa
 
 -- ---- what is asked
 
--- an entry asks as a pin does: a pin by its own delay, a pin by the delay that is lent for a final value of 0, an output
--- without delay
+-- an entry asks as a pin does: a pin by its own delay, a pin by the delay that is lent for a final value of 0, an
+-- output without delay
 abbrev pub entryAt : List ℕ → Shape → List ℕ → Side → ℕ → Pin
 entryAt file shape falls Pins entry = pinAt file shape entry
 entryAt file shape falls Falls entry = delayed (fallOf falls) (pinAt file shape entry)
@@ -251,7 +251,8 @@ pub record Stands (file : List ℕ) (l : Lent) (form : Form) (falls : List ℕ) 
   pub low : l .shape .inputs ≤ nodeBy form rail
   pub high : nodeBy form rail < nodesIn l
   pub own : pairPlace rail t (pairsIn (l .table)) ≡ k
-  pub drivers : Served file l form falls (sideOf form rail) (firstAt file (l .shape) (nodeBy form rail - l .shape .inputs))
+  pub drivers : Served file l form falls (sideOf form rail) (firstAt file (l .shape)
+      (nodeBy form rail - l .shape .inputs))
       (countAt file (l .shape) (nodeBy form rail - l .shape .inputs)) t
 
 -- each pair of the table

@@ -136,8 +136,9 @@ pub enum Side {
 }
 
 // What each driver of a gate adds, beside a variable of the gate's or the pair's own: the clause that its driver is
-// not at c or the gate is k; the literal that it is at c; the clause that the pair is not, or the driver is late, or not
-// at c. The variants hold no c and k, which are passed beside: so the compiler makes a loop of its own for each share.
+// not at c or the gate is k; the literal that it is at c; the clause that the pair is not, or the driver is late, or
+// not at c. The variants hold no c and k, which are passed beside: so the compiler makes a loop of its own for each
+// share.
 pub enum Share {
     Forced,
     Driver,
@@ -381,8 +382,8 @@ fn pair_variable(shape: Shape, k: usize) -> usize
     shape.inputs + shape.gates + k + 1
 }
 
-// That a node is late at t by one of its rails, as a code: 1 if true outright, 0 if false outright, else the code of its
-// pair's literal, with a guess at the pair's place.
+// That a node is late at t by one of its rails, as a code: 1 if true outright, 0 if false outright, else the code of
+// its pair's literal, with a guess at the pair's place.
 fn late_code(
     shape: Shape,
     tops: &[u32],
@@ -569,8 +570,8 @@ fn read_asked(
     sure
 }
 
-// Not the head, or something late, of `count` codes that were read, where `head` is twice a variable or 0 for none; left
-// out where something is late outright.
+// Not the head, or something late, of `count` codes that were read, where `head` is twice a variable or 0 for none;
+// left out where something is late outright.
 fn late_clause(
     head: usize,
     lates: &[u32; 128],
@@ -658,8 +659,8 @@ fn simple_clauses(
 ) -> Emitted
     requires { ⌜ (count ≤ 8) × (node < 65536) × Fits gateMost at ⌝ }
     ensures { λ r. ⌜
-        Emits gateMost (simpleRun form c k node (now (nodes .entry)) (now (lates .entry)) count) (now (formula .entry)) at
-        (now (formula .exit)) r
+        Emits gateMost (simpleRun form c k node (now (nodes .entry)) (now (lates .entry)) count)
+        (now (formula .entry)) at (now (formula .exit)) r
         ⌝ }
 {
     let own = node + 1;
@@ -709,8 +710,8 @@ fn gate_clauses(
 ) -> Emitted
     requires { ⌜
         Tables (now file) shape × Ready form (lent shape (now tops) (now table)) (now starts)
-        × Gated (now file) (lent shape (now tops) (now table)) form (now falls) Pins gate 0 × (node < 65536) × Fits gateMost at
-        × Long (now nodes) (now lates)
+        × Gated (now file) (lent shape (now tops) (now table)) form (now falls) Pins gate 0 × (node < 65536)
+        × Fits gateMost at × Long (now nodes) (now lates)
         ⌝ }
     ensures { λ r. ⌜
         Emits gateMost (tokensOf (gateClauses nodeVariable (gate .kind)
@@ -1076,7 +1077,8 @@ fn all_pairs(
         ⌝ }
     ensures { λ r. ⌜
         Emits pairsMost (concatMap (pairRun (now (file .entry)) (lent shape (now (tops .entry)) (now (table .entry)))
-        form (now (falls .entry))) (upFrom 0 (length (now (table .entry)) / 2))) (now (formula .entry)) at (now (formula .exit)) r
+        form (now (falls .entry))) (upFrom 0 (length (now (table .entry)) / 2))) (now (formula .entry)) at
+        (now (formula .exit)) r
         × Long (now (nodes .exit)) (now (lates .exit))
         ⌝ }
 {

@@ -43,7 +43,8 @@ gate-clauses-requires c κs =
     let holds = pre .0 in (
       holds .tables,
       pre .1,
-      gated-now (start (looped gate) .args .falls .now) (gate .gate-at .result) holds (pre .1) test (gate .gate-at .ensures .0),
+      gated-now (start (looped gate) .args .falls .now) (gate .gate-at .result) holds (pre .1) test
+          (gate .gate-at .ensures .0),
       omega (arith, holds .counts .inputs-few, holds .counts .gates-few),
       E.emitting-fits 448 (pre .2) (looped gate .loop .inv .1) (omega (arith, holds .counts .gates-few)),
       looped gate .loop .inv .2,

@@ -14,11 +14,13 @@ use Rattle.formula.proofs.all_pairs.Tie as tie
 
 abbrev Inv-loop : tie.InvT-loop
 Inv-loop form file shape falls tops table starts nodes₀ lates₀ formula₀ to₀ k₀ nodes lates formula to k =
-    (k ≤ length table / 2) × E.Emitting gateMost (pairRun file (lent shape tops table) form falls) k formula₀ to₀ formula to
+    (k ≤ length table / 2)
+    × E.Emitting gateMost (pairRun file (lent shape tops table) form falls) k formula₀ to₀ formula to
     × Long nodes lates
 
 abbrev μ-loop : tie.MeasureT-loop
-μ-loop form file shape falls tops table starts nodes₀ lates₀ formula₀ to₀ k₀ nodes lates formula to k = length table / 2 - k
+μ-loop form file shape falls tops table starts nodes₀ lates₀ formula₀ to₀ k₀ nodes lates formula to k =
+    length table / 2 - k
 
 -- the places on the way
 abbrev start : tie.At-loop Inv-loop μ-loop → tie.Start Inv-loop μ-loop

@@ -22,7 +22,8 @@ late-code-requires : tie.Need-late-code-requires
 late-code-requires c κs =
     let told = c .before in
     let s = c .before .before .before .before .before .before in
-    rail-asks (s .pre .0) (s .pre .1) (s .args .asked .node) (rail-single (s .args .asked .node) (told .enum-told .given .1))
+    rail-asks (s .pre .0) (s .pre .1) (s .args .asked .node) (rail-single (s .args .asked .node)
+    (told .enum-told .given .1))
 
 returns : tie.Need-returns
 returns c =
@@ -68,7 +69,8 @@ add-late-code c = search needs
 late-code-requires-3 : tie.Need-late-code-requires-3
 late-code-requires-3 c κs =
     let s = c .before .before .before .before .before .before .before .before in
-    rail-asks (s .pre .0) (s .pre .1) _ (rail-rise (s .args .asked .node) (c .before .before .before .enum-told2 .given .1))
+    rail-asks (s .pre .0) (s .pre .1) _ (rail-rise (s .args .asked .node)
+    (c .before .before .before .enum-told2 .given .1))
 
 returns-2 : tie.Need-returns-2
 returns-2 c =

@@ -56,7 +56,8 @@ returns-2 c =
     let s = checked .before .before .before .before .before in
     rw (of-sloped (s .args .file .now) (s .args .arrivals .now) (apart (s .args .falls .now)) (s .args .target)
     (length (s .args .pairs .now)) (length (s .args .formula .now)) (s .args .shape) _ (s .pre)
-    (sym (checked .check-falls .ensures) ∙ c .before .before .before .before .before .before .before .checked .given .1))
+    (sym (checked .check-falls .ensures) ∙ c .before .before .before .before .before .before .before .checked .given
+    .1))
     (c .before .before .before .refuse .ensures)
 
 pub build-falls-spec : {M : Type 1} → statement M

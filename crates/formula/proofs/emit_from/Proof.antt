@@ -10,7 +10,8 @@ use Rattle.formula.proofs.emit_from.Tie as tie
 
 -- the places on the way: the start, the rails, what begins where
 abbrev start : tie.After-all-gates → tie.Start
-start c = c .before .before .before .before .before .before .before .before .before .before .before .before .before .before .before .before
+start c = c .before .before .before .before .before .before .before .before .before .before .before .before .before
+    .before .before .before
 
 abbrev railed : tie.After-all-gates → tie.After-rails-for
 railed c = c .before .before .before .before .before .before .before .before .before
@@ -39,7 +40,8 @@ all-gates-requires : tie.Need-all-gates-requires
 all-gates-requires c κs =
     let starts = c .before .before .before .before .before .before in
     let rails = c .before .before .before .before .before .before .before .before in
-    let s = c .before .before .before .before .before .before .before .before .before .before .before .before .before .before .before in (
+    let s = c .before .before .before .before .before .before .before .before .before .before .before .before .before
+    .before .before in (
       s .pre .0,
       ready-by (s .pre .1) (rails .rails-for .ensures) (starts .starts .ensures),
       record { place = omega arith; fewer = omega arith },
@@ -72,7 +74,8 @@ output-clause-requires c κs =
 
 same-length : tie.Need-same-length
 same-length c =
-    let gates = c .before .before .before .before .before .before .before .before .before .before .before .before .before in
+    let gates = c .before .before .before .before .before .before .before .before .before .before .before .before
+    .before in
     omega (arith, gates .before .before .before .before .before .before)
 
 same-length-2 : tie.Need-same-length-2

@@ -1,7 +1,6 @@
 -- `formula::fixed_clause` meets its contract: no clause in the single form, else three runs. Assumes nothing.
 use mathlib.Core.Path.{refl}
 use native.Mathlib.Omega.{arith}
-use borrow.Author.Tests.{eq-eqb}
 use Rattle.formula.proofs.Emission.{emits-none, emits-then, emits-as}
 use borrow.Author.Needs.{needs}
 use Rattle.formula.proofs.fixed_clause.Statement.{statement}

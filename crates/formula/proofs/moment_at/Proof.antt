@@ -19,8 +19,11 @@ driver-at-requires c κs =
 delay-at-requires : tie.Need-delay-at-requires
 delay-at-requires c κs =
     let told = c .before in
-    let s = told .before .before .before .before in
-    (s .pre .0, within-as (s .args .shape) (s .args .falls .now) (s .args .entry) (told .enum-told .given .1) (s .pre .1))
+    let s = told .before .before .before .before in (
+      s .pre .0,
+      within-as (s .args .shape) (s .args .falls .now) (s .args .entry) (told .enum-told .given .1)
+          (s .pre .1),
+    )
 
 less-requires : tie.Need-less-requires
 less-requires c κs = search needs

@@ -41,4 +41,7 @@ returns c =
     (omega (arith, few, rails .rails-for .ensures, start .pre .0 .counts .outputs-few))
 
 pub output-clause-spec : {M : Type 1} → statement M
-output-clause-spec = tie.close (tie.spec read-asked-requires rails-for-requires late-clause-requires same-length returns)
+output-clause-spec =
+    tie.close
+    (tie.spec read-asked-requires rails-for-requires late-clause-requires same-length
+    returns)

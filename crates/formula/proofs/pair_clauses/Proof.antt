@@ -26,7 +26,8 @@ read-asked-requires c κs =
     let gated = s .pre .2 in (
       s .pre .0,
       s .pre .1,
-      subst (λ (x : Side). Served (s .args .file .now) (lent (s .args .shape) (s .args .tops .now) (s .args .table .now))
+      subst (λ (x : Side). Served (s .args .file .now) (lent (s .args .shape) (s .args .tops .now)
+          (s .args .table .now))
           (s .args .form) (s .args .falls .now) x (s .args .gate .first) (s .args .gate .count) (s .args .t))
           (sym (side .side-of .ensures)) (gated .drivers),
       omega (arith, gated .few),

@@ -63,7 +63,8 @@ slice-aggregate-emit-2 c = sym (length-take-le _ _ (few (c .before .before .befo
 emit-requires : tie.Need-emit-requires
 emit-requires c κs =
     let s = c .before .before .before .before .before .before .before .before in
-    let ready = lent-ready (s .args .file .now) (s .args .shape) (take (s .args .shape .inputs) (s .args .tops .now)) (s .args .form)
+    let ready = lent-ready (s .args .file .now) (s .args .shape) (take (s .args .shape .inputs)
+    (s .args .tops .now)) (s .args .form)
     (s .args .falls .now) (s .args .target)
     (take (s .args .shape .inputs + s .args .shape .gates) (s .args .tops .now))
     (take (s .args .count * 2) (s .args .pairs .now)) (s .pre .2 .is) (pairs-there s) (s .pre .0) (s .pre .1)
@@ -86,20 +87,24 @@ returns : tie.Need-returns
 returns c =
     let emit = c .before .before .before .before .before .before .before .before .before in
     let s = start emit in
-    wrote-none (s .args .file .now) (s .args .shape) (take (s .args .shape .inputs) (s .args .tops .now)) (s .args .form)
+    wrote-none (s .args .file .now) (s .args .shape) (take (s .args .shape .inputs) (s .args .tops .now))
+    (s .args .form)
     (s .args .falls .now) (s .args .target)
     (s .args .pairs .now) (s .args .count) (s .pre .3) (s .args .formula .now) _ (emit .emit .result)
-    (lent-numbers (s .args .file .now) (s .args .shape) (take (s .args .shape .inputs) (s .args .tops .now)) (s .args .form)
+    (lent-numbers (s .args .file .now) (s .args .shape) (take (s .args .shape .inputs) (s .args .tops .now))
+    (s .args .form)
     (s .args .falls .now) (s .args .target)
     (take (s .args .shape .inputs + s .args .shape .gates) (s .args .tops .now))
     (take (s .args .count * 2) (s .args .pairs .now)) (s .pre .2 .is) (pairs-there s) (emit .emit .ensures))
-    (emits-length (emit .emit .ensures)) _ _ (c .before .before .before .before .before .before .before .if1 .taken) (c .before .before .before .before .before .zero-u32 .ensures)
+    (emits-length (emit .emit .ensures)) _ _ (c .before .before .before .before .before .before .before .if1 .taken)
+    (c .before .before .before .before .before .zero-u32 .ensures)
     (c .before .zero-i32 .ensures)
 
 spread-requires : tie.Need-spread-requires
 spread-requires c κs =
     let s = c .before .before .before .before .before .before .before .before .before .before .before .before in
-    spread-fits (s .args .file .now) (s .args .shape) (take (s .args .shape .inputs) (s .args .tops .now)) (s .args .form)
+    spread-fits (s .args .file .now) (s .args .shape) (take (s .args .shape .inputs) (s .args .tops .now))
+    (s .args .form)
     (s .args .falls .now) (s .args .target)
     (s .args .pairs .now) (s .args .count) (s .pre .3)
 
@@ -122,12 +127,14 @@ returns-2 c =
     wrote-all (s .args .file .now) (s .args .shape) (take (s .args .shape .inputs) (s .args .tops .now)) (s .args .form)
     (s .args .falls .now) (s .args .target)
     (s .args .pairs .now) (s .args .count) (s .pre .3) (s .args .formula .now) _ (emit .emit .result)
-    (lent-numbers (s .args .file .now) (s .args .shape) (take (s .args .shape .inputs) (s .args .tops .now)) (s .args .form)
+    (lent-numbers (s .args .file .now) (s .args .shape) (take (s .args .shape .inputs) (s .args .tops .now))
+    (s .args .form)
     (s .args .falls .now) (s .args .target)
     (take (s .args .shape .inputs + s .args .shape .gates) (s .args .tops .now))
     (take (s .args .count * 2) (s .args .pairs .now)) (s .pre .2 .is) (pairs-there s) (emit .emit .ensures))
     (emits-length (emit .emit .ensures)) _ _ (c .before .before .before .before .before .before .before .if1 .left)
-    (c .before .before .before .before .before .spread .ensures (s .args .falls .now)) (c .before .zero-rest-i32 .ensures)
+    (c .before .before .before .before .before .spread .ensures (s .args .falls .now))
+    (c .before .zero-rest-i32 .ensures)
 
 pub write-spec : {M : Type 1} → statement M
 write-spec =
