@@ -72,8 +72,9 @@ module _ {X : Type 0} (node : ℕ → X) where
 
 -- over the slopes, I inputs, the nodes' tops, and the variables of a node and of a rail at a time
 module _ {X : Type 0} (slopes : Slopes) (I : ℕ) (top : ℕ → ℕ) (node : ℕ → X) (pair : ℕ → ℕ → X) where
-  -- A node is late at t by one of its rails (rule F2): true outright at 0, false outright above its top, otherwise open,
-  -- the variable of the pair. An input is late up to its top, which is its arrival, and not beyond: it has no pair
+  -- A node is late at t by one of its rails (rules F2 and R3): true outright at 0, false outright above its top,
+  -- otherwise open, the variable of the pair. An input is late up to its top, which is its arrival, and not beyond: it
+  -- has no pair
   unfoldable pub late : ℕ → ℕ → ℕ → Part X
   late n rail t =
       cond (ltb n I) (cond (leb t (top n)) sure never)
@@ -95,8 +96,8 @@ module _ {X : Type 0} (slopes : Slopes) (I : ℕ) (top : ℕ → ℕ) (node : �
   abbrev pub cubeClause : ℕ → ℕ → Cube Pin → List (List (Bool × X))
   cubeClause rail t cube = clauseOf (literal false (pair rail t) ∷ concatMap (cubeParts t) cube)
 
-  -- the clauses of a rail's pair: where the rail speaks of a final value, not p, or the gate has it (rule R5); not p, or
-  -- one of the drivers late, in pin order; then one a controlling cube (rule F12)
+  -- the clauses of a rail's pair: where the rail speaks of a final value, not p, or the gate has it (rule R5); not p,
+  -- or one of the drivers late, in pin order; then one a controlling cube (rule F12)
   unfoldable pub pairClauses : Rail → ℕ → List (List (Bool × X))
   pairClauses r t =
       map (λ value. (false, pair (r .number) t) ∷ is node (r .node) value ∷ []) (r .fixes)
