@@ -15,6 +15,7 @@ use Rattle.settle.specs.Edges.{edges as settlingEdges, edges-hold as settlingEd
 use Rattle.formula.specs.Promise.{building}
 use Rattle.formula.specs.Cases.{Case as Forming, cases as formings, hold as formings-hold}
 use Rattle.formula.specs.Edges.{Case as Building, edges as buildings, edges-hold as buildings-hold}
+use Rattle.formula.specs.Apart.{Case as Falling, cases as fallings, cases-hold as fallings-hold}
 use Rattle.refute.specs.Examples.{cases as checkings, followings}
 use Rattle.refute.specs.Edges.{edges as checkingEdges}
 use Rattle.refute.proofs.Examples.{cases-hold as checkings-hold, followings-hold}
@@ -28,6 +29,7 @@ use Rattle.certificate.specs.Table.{
   settles,
   forms,
   builds,
+  buildsApart,
   checks,
   follows,
   certifies,
@@ -36,7 +38,7 @@ use Rattle.certificate.specs.Table.{
 }
 use Rattle.certificate.proofs.Examples.{cases-hold as certifyings-hold}
 use Rattle.certificate.proofs.Edges.{edges-hold as certifyingEdges-hold}
-use Rattle.netlist.specs.Netlist.{alike}
+use Rattle.netlist.specs.Netlist.{alike, apart}
 
 -- each row of a list stands
 abbrev Stand : List Entry → Type 0
@@ -87,8 +89,14 @@ table-stands =
     (λ (c : Building). building (c .file) (c .arrivals) alike (c .target) (length (c .leaves .pairs))
     (length (c .leaves .formula)))
     (λ (c : Building). c .leaves) buildings buildings-hold))
+    (joined
+    (made buildsApart fallings
+    (map-each
+    (λ (c : Falling). building (c .file) (c .arrivals) (apart (c .falls)) (c .target) (length (c .leaves .pairs))
+    (length (c .leaves .formula)))
+    (λ (c : Falling). c .leaves) fallings fallings-hold))
     (joined (made checks checkings checkings-hold)
     (joined (made checks checkingEdges checkingEdges-hold)
     (joined (made follows followings followings-hold)
     (joined (made certifies certifyings certifyings-hold)
-    (made certifies certifyingEdges certifyingEdges-hold))))))))))
+    (made certifies certifyingEdges certifyingEdges-hold)))))))))))

@@ -17,6 +17,7 @@ use Rattle.clauses.specs.Clauses.{Literal, clausesOf}
 use Rattle.formula.specs.Promise.{building}
 use Rattle.formula.specs.Cases.{Case as Forming, cases as formings}
 use Rattle.formula.specs.Edges.{Case as Building, edges as buildings}
+use Rattle.formula.specs.Apart.{Case as Falling, cases as fallings}
 use Rattle.refute.specs.Propagation.{Follows}
 use Rattle.refute.specs.Promise.{Checks}
 use Rattle.refute.specs.Examples.{Case as Checking, cases as checkings, Following, followings}
@@ -24,16 +25,17 @@ use Rattle.refute.specs.Edges.{edges as checkingEdges}
 use Rattle.certificate.specs.Promise.{Judgement, Judges}
 use Rattle.certificate.specs.Cases.{Case as Certifying, cases as certifyings}
 use Rattle.certificate.specs.Edges.{edges as certifyingEdges}
-use Rattle.netlist.specs.Netlist.{alike}
+use Rattle.netlist.specs.Netlist.{alike, apart}
 
--- one row: a refusal's number and place, a file that is opened, an evaluation, a building call on circuit A or on a
--- file, a check, a clause that follows, or a certificate call
+-- one row: a refusal's number and place, a file that is opened, an evaluation, a building call on circuit A, on a file,
+-- or on a file with delays of rise and fall, a check, a clause that follows, or a certificate call
 pub data Entry : Type 0 where
   numbers : Numbering → Entry
   opens : Opening → Entry
   settles : Settling → Entry
   forms : Forming → Entry
   builds : Building → Entry
+  buildsApart : Falling → Entry
   checks : Checking → Entry
   follows : Following → Entry
   certifies : Certifying → Entry
@@ -49,6 +51,10 @@ Stands (settles c) =
 Stands (forms c) = building circuitA (0 ∷ 0 ∷ []) alike (c .target) (c .pairsRoom) (c .formulaRoom) ≡ c .leaves
 Stands (builds c) =
     building (c .file) (c .arrivals) alike (c .target) (length (c .leaves .pairs)) (length (c .leaves .formula))
+    ≡ c .leaves
+Stands (buildsApart c) =
+    building (c .file) (c .arrivals) (apart (c .falls)) (c .target) (length (c .leaves .pairs))
+    (length (c .leaves .formula))
     ≡ c .leaves
 Stands (checks c) = Checks (c .variables) (c .formula) (c .refutation) (c .room) (c .answer)
 Stands (follows f) =
@@ -67,8 +73,9 @@ table =
     ++ (map settles settlingEdges
     ++ (map forms formings
     ++ (map builds buildings
+    ++ (map buildsApart fallings
     ++ (map checks checkings
     ++ (map checks checkingEdges
     ++ (map follows followings
     ++ (map certifies certifyings
-    ++ map certifies certifyingEdges)))))))))
+    ++ map certifies certifyingEdges))))))))))
