@@ -40,7 +40,8 @@ small file arrivals slopes target pairsRoom formulaRoom = go (openCircuitOf file
     sloped : (shape : Shape) → openCircuitOf file arrivals ≡ Accepted shape → (c : Checked) →
         checked (slopeRows (shape .pins) slopes) ≡ c →
         Small (building file arrivals slopes target pairsRoom formulaRoom .answer)
-    sloped shape e (Fails refusal) f = rw (of-sloped file arrivals slopes target pairsRoom formulaRoom shape e f) tt
+    sloped shape e (Fails refusal) f =
+        rw (of-sloped file arrivals slopes target pairsRoom formulaRoom shape refusal e f) tt
     sloped shape e Passes f =
         let h = accepted file arrivals e .holds in
         let n = node-count file shape in

@@ -11,20 +11,26 @@ slice-aggregate-counted-of c = search needs
 counted-of-requires : tie.Need-counted-of-requires
 counted-of-requires c κs = search needs
 
+counted-end-requires : tie.Need-counted-end-requires
+counted-end-requires c κs = search needs
+
+sub-with-arrivals : tie.Need-sub-with-arrivals
+sub-with-arrivals c = search needs
+
+part-with-arrivals-start : tie.Need-part-with-arrivals-start
+part-with-arrivals-start c = search needs
+
+part-with-arrivals-end : tie.Need-part-with-arrivals-end
+part-with-arrivals-end c = search needs
+
 array-share-prefix-arrivals : tie.Need-array-share-prefix-arrivals
 array-share-prefix-arrivals c = search needs
 
-slice-aggregate-show : tie.Need-slice-aggregate-show
-slice-aggregate-show c = sym (length-take-le _ _ (c .before .before .counted-of .ensures .2))
+slice-aggregate-with-arrivals : tie.Need-slice-aggregate-with-arrivals
+slice-aggregate-with-arrivals c = sym (length-take-le _ _ (c .before .before .before .before .counted-of .ensures .2))
 
-slice-aggregate-show-2 : tie.Need-slice-aggregate-show-2
-slice-aggregate-show-2 c = search needs
-
-slice-aggregate-show-3 : tie.Need-slice-aggregate-show-3
-slice-aggregate-show-3 c = search needs
-
-show-requires : tie.Need-show-requires
-show-requires c κs = search needs
+with-arrivals-requires : tie.Need-with-arrivals-requires
+with-arrivals-requires c κs = search needs
 
 returns : tie.Need-returns
 returns c = search needs
@@ -35,9 +41,11 @@ with-netlist-spec =
     (tie.spec
     slice-aggregate-counted-of
     counted-of-requires
+    counted-end-requires
+    sub-with-arrivals
+    part-with-arrivals-start
+    part-with-arrivals-end
     array-share-prefix-arrivals
-    slice-aggregate-show
-    slice-aggregate-show-2
-    slice-aggregate-show-3
-    show-requires
+    slice-aggregate-with-arrivals
+    with-arrivals-requires
     returns)
