@@ -512,6 +512,54 @@ fn ask(
     }
 }
 
+// The same for what is read once. It stands apart, so that the compiler puts `ask` into the one loop that calls it, for
+// each pin of each pair.
+fn ask_once(
+    form: Form,
+    shape: Shape,
+    tops: &[u32],
+    table: &[u32],
+    starts: &[usize],
+    lates: &[u32; 128],
+    i: usize,
+    asked: Moment,
+) -> Asked
+    requires { ⌜
+        Ready form (lent shape (now tops) (now table)) (now starts)
+        × Asking form (lent shape (now tops) (now table)) (asked .node) (asked .time)
+        × (asked .node < 65536) × (i < 64)
+        ⌝ }
+    ensures { λ r. ⌜
+        (r ≡ askedBy form (lent shape (now (tops .entry)) (now (table .entry))) (asked .node) (asked .time))
+        × Storable r
+        ⌝ }
+{
+    let node = asked.node;
+    let time = asked.time;
+    match form {
+        Form::Single => {
+            let guess = guess_at(shape, lates, i);
+            let late = late_code(shape, tops, table, starts, node, node, time, guess);
+            return Asked {
+                node: node,
+                late: late,
+                more: 0,
+            };
+        }
+        Form::RiseFall => {
+            let guess = guess_at(shape, lates, i * 2);
+            let late = late_code(shape, tops, table, starts, node, node * 2, time, guess);
+            let other = guess_at(shape, lates, i * 2 + 1);
+            let more = late_code(shape, tops, table, starts, node, node * 2 + 1, time, other);
+            return Asked {
+                node: node,
+                late: late,
+                more: more,
+            };
+        }
+    }
+}
+
 // What is known of entry i is stored.
 fn store(form: Form, nodes: &mut [u16; 64], lates: &mut [u32; 128], i: usize, asked: Asked)
     requires { ⌜ (i < 64) × Storable asked ⌝ }
@@ -563,6 +611,45 @@ fn read_asked(
     while i < count {
         let moment = moment_at(file, shape, falls, side, first + i, t);
         let asked = ask(form, shape, tops, table, starts, lates, i, moment);
+        store(form, nodes, lates, i, asked);
+        sure = sure | (asked.late == 1);
+        i += 1;
+    }
+    sure
+}
+
+// The same for a gate's own clauses and for the outputs, which are read once. It stands apart, so that the compiler
+// puts `read_asked` into the one place that calls it, for each pair.
+fn read_once(
+    form: Form,
+    file: &[u8],
+    shape: Shape,
+    falls: &[u32],
+    tops: &[u32],
+    table: &[u32],
+    starts: &[usize],
+    side: Side,
+    first: usize,
+    count: usize,
+    t: usize,
+    nodes: &mut [u16; 64],
+    lates: &mut [u32; 128],
+) -> bool
+    requires { ⌜
+        Tables (now file) shape × Ready form (lent shape (now tops) (now table)) (now starts)
+        × Served (now file) (lent shape (now tops) (now table)) form (now falls) side first count t
+        × (count ≤ 64) × (first + count ≤ 2048) × Long (now nodes) (now lates)
+        ⌝ }
+    ensures { λ r. ⌜
+        Reads (now (file .entry)) (lent shape (now (tops .entry)) (now (table .entry))) form (now (falls .entry)) side
+        first count t (now (nodes .exit)) (now (lates .exit)) r
+        ⌝ }
+{
+    let mut sure = false;
+    let mut i = 0;
+    while i < count {
+        let moment = moment_at(file, shape, falls, side, first + i, t);
+        let asked = ask_once(form, shape, tops, table, starts, lates, i, moment);
         store(form, nodes, lates, i, asked);
         sure = sure | (asked.late == 1);
         i += 1;
@@ -723,7 +810,7 @@ fn gate_clauses(
     let first = gate.first;
     let count = gate.count;
     let kind = gate.kind;
-    read_asked(
+    read_once(
         form,
         file,
         shape,
@@ -1139,7 +1226,7 @@ fn output_clause(
         ⌝ }
 {
     let count = shape.outputs;
-    let sure = read_asked(
+    let sure = read_once(
         form,
         file,
         shape,

@@ -9,11 +9,11 @@ use borrow.Author.Needs.{needs}
 use Rattle.formula.proofs.gate_clauses.Statement.{statement}
 use Rattle.formula.proofs.gate_clauses.Tie as tie
 
-abbrev start : tie.After-read-asked → tie.Start
+abbrev start : tie.After-read-once → tie.Start
 start c = c .before .before .before .before .before .before .before .before
 
-read-asked-requires : tie.Need-read-asked-requires
-read-asked-requires c κs = search needs
+read-once-requires : tie.Need-read-once-requires
+read-once-requires c κs = search needs
 
 enum-known-kind : tie.Need-enum-known-kind
 enum-known-kind c = search needs
@@ -31,8 +31,8 @@ returns c =
     let fields = kind .kind .given .0 in (
       rw (kind .kind .given .1)
           (emits-as gateMost (c .before .simple-clauses .ensures)
-          (simple-read (read .read-asked .ensures) (fields .0) (fields .1 .0) (start read .args .node)) (omega arith)),
-      read .read-asked .ensures .long,
+          (simple-read (read .read-once .ensures) (fields .0) (fields .1 .0) (start read .args .node)) (omega arith)),
+      read .read-once .ensures .long,
     )
 
 enum-known-kind-2 : tie.Need-enum-known-kind-2
@@ -50,9 +50,9 @@ returns-2 c =
     let read = kind .before .before in (
       rw (kind .kind2 .given .1)
           (emits-as gateMost (c .before .choice-clauses .ensures)
-          (parity-read (read .read-asked .ensures) (kind .kind2 .given .0 .0) (start read .args .node)
+          (parity-read (read .read-once .ensures) (kind .kind2 .given .0 .0) (start read .args .node)
           (takes-parity _ (kind .kind2 .given .1) (start read .pre .2 .takes-all))) (omega arith)),
-      read .read-asked .ensures .long,
+      read .read-once .ensures .long,
     )
 
 enum-told : tie.Need-enum-told
@@ -70,16 +70,16 @@ returns-3 c =
     let read = kind .before .before in (
       rw (kind .enum-told .given .1)
           (emits-as gateMost (c .before .choice-clauses2 .ensures)
-          (mux-read (read .read-asked .ensures) (start read .args .node)
+          (mux-read (read .read-once .ensures) (start read .args .node)
           (takes-mux _ (kind .enum-told .given .1) (start read .pre .2 .takes-all))) (omega arith)),
-      read .read-asked .ensures .long,
+      read .read-once .ensures .long,
     )
 
 pub gate-clauses-spec : {M : Type 1} → statement M
 gate-clauses-spec =
     tie.close
     (tie.spec
-    read-asked-requires
+    read-once-requires
     enum-known-kind
     simple-clauses-requires
     same-length

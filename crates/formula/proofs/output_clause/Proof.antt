@@ -7,8 +7,8 @@ use borrow.Author.Needs.{needs}
 use Rattle.formula.proofs.output_clause.Statement.{statement}
 use Rattle.formula.proofs.output_clause.Tie as tie
 
-read-asked-requires : tie.Need-read-asked-requires
-read-asked-requires c κs = search needs
+read-once-requires : tie.Need-read-once-requires
+read-once-requires c κs = search needs
 
 rails-for-requires : tie.Need-rails-for-requires
 rails-for-requires c κs = search needs
@@ -37,11 +37,11 @@ returns c =
     let rails = c .before .before .before .before in
     let few = rails-few (start .args .form) (start .args .shape .outputs) in
     emits-as outputsMost (c .before .late-clause .ensures)
-    (late-outputs (read .read-asked .ensures) (rails .rails-for .ensures))
+    (late-outputs (read .read-once .ensures) (rails .rails-for .ensures))
     (omega (arith, few, rails .rails-for .ensures, start .pre .0 .counts .outputs-few))
 
 pub output-clause-spec : {M : Type 1} → statement M
 output-clause-spec =
     tie.close
-    (tie.spec read-asked-requires rails-for-requires late-clause-requires same-length
+    (tie.spec read-once-requires rails-for-requires late-clause-requires same-length
     returns)
