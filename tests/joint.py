@@ -9,7 +9,7 @@ a row or a law that says the same thing in other words. Eight changes are tried:
   proved again, up to the one that refuses;
 - one of these, 65,535 pairs for 65,536, is also compiled without proof, and a case of the comparison names it.
 
-Each is caught where every function is proved and every error stands in the one file named here. Ends with 1 where one is
+Each is caught where every function is proved and every error stands in the files named here. Ends with 1 where one is
 not. Assumes that target/ is as `rt ci` leaves it, and works in temporary folders that it removes.
 """
 
@@ -39,9 +39,9 @@ EDITS = (
     Edit("a parity gate's clauses are in another order", "formula", "parity_clauses_exchanged", "specs/Edges.antt"),
 )
 
-# A change made here: what it changes, the crate and the file in which it is refused, and each text that is replaced,
-# wherever it stands in its file of crates/.
-Joint = namedtuple("Joint", "name crate file texts")
+# A change made here: what it changes, the crate and the files of rows in which it is refused, and each text that is
+# replaced, wherever it stands in its file of crates/.
+Joint = namedtuple("Joint", "name crate files texts")
 Text = namedtuple("Text", "path old new")
 
 LAST = "lastRow (clausesOf refutation)"
@@ -69,7 +69,7 @@ ROOM_FIRST = Joint("room for propagation is asked before LAST", "refute", "proof
     Text("refute/proofs/refutation_rows/Proof.antt", "FIRST", "room-row"),
 ))
 
-FEWER_PAIRS = Joint("more than 65,535 pairs are too many", "formula", "specs/Edges.antt", (
+FEWER_PAIRS = Joint("more than 65,535 pairs are too many", "formula", "specs/Edges.antt specs/Apart.antt", (
     Text("pairs/specs/Pairs.antt", "min (room / numbers) 65536", "min (room / numbers) 65535"),
     Text("pairs/src/lib.rt", "smaller(numbers / 2, 65536)", "smaller(numbers / 2, 65535)"),
     Text("pairs/src/lib.rt", "smaller(numbers / 3, 65536)", "smaller(numbers / 3, 65535)"),
@@ -124,15 +124,15 @@ JOINTS = (FEWER_PAIRS, NOR, ROOM_FIRST, TO_THE_END)
 PROVED = ("rlib", "stamp", "log", "obj", "bin")
 
 
-def against(said, place):
-    """What a prover's words have against a change that is to be refused in one file alone; nothing where it is."""
+def against(said, *places):
+    """What a prover's words have against a change that is to be refused in these files alone; nothing where it is."""
     errors = re.findall(r"^(\S+?):\d+:\d+: error", said, re.MULTILINE)
     unproved = re.findall(r"^fn (\S+): (?!proved$)", said, re.MULTILINE)
     if unproved:
         return "not proved: " + ", ".join(unproved)
     if not errors:
         return "nothing is refused"
-    elsewhere = sorted({error for error in errors if not error.endswith("/" + place)})
+    elsewhere = sorted({error for error in errors if not error.endswith(tuple("/" + place for place in places))})
     return "also refused in " + ", ".join(elsewhere) if elsewhere else ""
 
 
@@ -173,7 +173,7 @@ def try_joint(joint):
                                stderr=subprocess.STDOUT, text=True, check=False)
     if not ended.stdout.rstrip().endswith("rt: FAILED: " + joint.crate):
         return "rt ends with: " + ended.stdout[-200:]
-    return against(ended.stdout, f"crates/{joint.crate}/{joint.file}")
+    return against(ended.stdout, *(f"crates/{joint.crate}/{file}" for file in joint.files.split()))
 
 
 def named_by_comparison(joint, count):
