@@ -1,4 +1,4 @@
 """The command `buzzlumen`: questions about a circuit's delay, answered by the proved library."""
 
-__version__ = "2.0"
-DATE = "2026-11-15"
+__version__ = "2.1"
+DATE = "2026-11-16"
