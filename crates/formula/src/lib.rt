@@ -1143,7 +1143,7 @@ fn pair_at(table: &[u32], k: usize) -> Pair
     }
 }
 
-// Each pair, rising variable.
+// Each pair, rising variable. A gate is read once for all of its pairs, which stand together; no gate is node 0.
 fn all_pairs(
     form: Form,
     file: &[u8],
@@ -1171,10 +1171,19 @@ fn all_pairs(
 {
     let mut to = at;
     let mut k = 0;
+    let mut last = 0;
+    let mut gate = Gate {
+        kind: Kind::Mux,
+        first: 0,
+        count: 0,
+    };
     while k < table.len() / 2 {
         let pair = pair_at(table, k);
         let node = node_of(form, pair.rail);
-        let gate = netlist::gate_at(file, shape, node - shape.inputs);
+        if node != last {
+            gate = netlist::gate_at(file, shape, node - shape.inputs);
+            last = node;
+        }
         to = pair_clauses(
             form,
             file,

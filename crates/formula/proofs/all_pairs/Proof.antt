@@ -1,5 +1,7 @@
--- `formula::all_pairs` meets its contract: pair after pair of the table, each puts its run. Assumes nothing.
-use mathlib.Core.Path.{_≡_, ap, _∙_}
+-- `formula::all_pairs` meets its contract: pair after pair of the table, each puts its run; the gate is that of the
+-- pair's node, read now or kept from the pair before. Assumes nothing.
+use mathlib.Core.Path.{_≡_, sym, ap, _∙_}
+use mathlib.Core.Logic.{⊎-elim}
 use Prim.Native.Nat.{ℕ, _-_, _/_, _≤_}
 use native.Mathlib.Omega.{arith}
 use lib.ListN.{length}
@@ -13,13 +15,16 @@ use Rattle.formula.proofs.all_pairs.Statement.{statement}
 use Rattle.formula.proofs.all_pairs.Tie as tie
 
 abbrev Inv-loop : tie.InvT-loop
-Inv-loop form file shape falls tops table starts nodes₀ lates₀ formula₀ to₀ k₀ nodes lates formula to k =
+Inv-loop form file shape falls tops table starts nodes₀ lates₀ formula₀ to₀ k₀ last₀ gate₀ nodes lates formula to k
+    last gate =
     (k ≤ length table / 2)
     × E.Emitting gateMost (pairRun file (lent shape tops table) form falls) k formula₀ to₀ formula to
     × Long nodes lates
+    × (shape .inputs ≤ last → gate ≡ gateAt file shape (last - shape .inputs))
 
 abbrev μ-loop : tie.MeasureT-loop
-μ-loop form file shape falls tops table starts nodes₀ lates₀ formula₀ to₀ k₀ nodes lates formula to k =
+μ-loop form file shape falls tops table starts nodes₀ lates₀ formula₀ to₀ k₀ last₀ gate₀ nodes lates formula to k
+    last gate =
     length table / 2 - k
 
 -- the places on the way
@@ -29,9 +34,6 @@ start c = c .before .before .before .before .before .before
 abbrev looped : tie.After-pair-at Inv-loop μ-loop → tie.At-loop Inv-loop μ-loop
 looped c = c .before .before
 
-abbrev paired : tie.After-gate-at Inv-loop μ-loop → tie.After-pair-at Inv-loop μ-loop
-paired c = c .before .before .before
-
 -- what stands there
 here : (c : tie.After-pair-at Inv-loop μ-loop) →
     Here (start (looped c) .args .file .now)
@@ -40,22 +42,40 @@ here : (c : tie.After-pair-at Inv-loop μ-loop) →
 here c = stands-here (looped c .loop .k) (c .pair-at .result) (start (looped c) .pre .2) (c .before .loop-test .taken)
     (c .pair-at .ensures)
 
--- the gate is that of the rail's node
-gate-read : (c : tie.After-gate-at Inv-loop μ-loop) →
-    c .gate-at .result
-    ≡ gateAt (start (looped (paired c)) .args .file .now) (start (looped (paired c)) .args .shape)
-    (nodeBy (start (looped (paired c)) .args .form) (paired c .pair-at .result .rail)
-    - start (looped (paired c)) .args .shape .inputs)
-gate-read c =
-    let args = start (looped (paired c)) .args in
-    c .gate-at .ensures .0
-    ∙ ap (λ (n : ℕ). gateAt (args .file .now) (args .shape) (n - args .shape .inputs))
-    (c .before .before .node-of .ensures)
+-- the gate is that of the rail's node, read now or kept from the pair before
+gate-known : (c : tie.Joined1 Inv-loop μ-loop) →
+    (c .if1 .last ≡ c .before .node-of .result)
+    × (c .if1 .gate
+    ≡ gateAt (start (looped (c .before .before)) .args .file .now) (start (looped (c .before .before)) .args .shape)
+    (nodeBy (start (looped (c .before .before)) .args .form) (c .before .before .pair-at .result .rail)
+    - start (looped (c .before .before)) .args .shape .inputs))
+gate-known c =
+    let at = looped (c .before .before) in
+    let args = start at .args in
+    let node = c .before .node-of .ensures in
+    ⊎-elim
+    (λ w. (
+      w .3,
+      w .4
+          ∙ w .2 .ensures .0
+          ∙ ap (λ (n : ℕ). gateAt (args .file .now) (args .shape) (n - args .shape .inputs)) node,
+    ))
+    (λ w. (
+      w .1 ∙ sym (w .0 .left),
+      w .2
+          ∙ at .loop .inv .3 (omega (arith, w .0 .left, node, here (c .before .before) .stands .low))
+          ∙ ap (λ (n : ℕ). gateAt (args .file .now) (args .shape) (n - args .shape .inputs)) (sym (w .0 .left) ∙ node),
+    ))
+    (c .if1 .came)
 
 loop-holds : tie.Need-loop-holds Inv-loop μ-loop
 loop-holds c =
-    let pre = c .before .before .before .before .before .pre in
-    (omega arith, E.emitting-starts _ _ _ _ (pre .3 .fewer), pre .4)
+    let pre = c .before .before .before .before .before .pre in (
+      omega arith,
+      E.emitting-starts _ _ _ _ (pre .3 .fewer),
+      pre .4,
+      λ h. absurd (omega (arith, pre .0 .counts .inputs-some)),
+    )
 
 pair-at-requires : tie.Need-pair-at-requires Inv-loop μ-loop
 pair-at-requires c κs = search needs
@@ -64,11 +84,11 @@ node-of-requires : tie.Need-node-of-requires Inv-loop μ-loop
 node-of-requires c κs = search needs
 
 sub-gate-at : tie.Need-sub-gate-at Inv-loop μ-loop
-sub-gate-at c = omega (arith, here (c .before .before) .stands .low)
+sub-gate-at c = omega (arith, here (c .before .before .before) .stands .low)
 
 gate-at-requires : tie.Need-gate-at-requires Inv-loop μ-loop
 gate-at-requires c κs =
-    let pair = c .before .before in
+    let pair = c .before .before .before in
     (start (looped pair) .pre .0 .tables, omega (arith, here pair .stands .low, here pair .stands .high))
 
 pair-variable-requires : tie.Need-pair-variable-requires Inv-loop μ-loop
@@ -77,16 +97,17 @@ pair-variable-requires c κs = search needs
 pair-clauses-requires : tie.Need-pair-clauses-requires Inv-loop μ-loop
 pair-clauses-requires c κs =
     let variable = c .before .before .before .pair-variable .ensures in
-    let gate = c .before .before .before .before in
-    let pair = paired gate in
+    let joined = c .before .before .before .before in
+    let pair = joined .before .before in
     let at = looped pair in
     let s = start at in
-    let few = s .pre .1 .slices .pairs-few in (
+    let few = s .pre .1 .slices .pairs-few in
+    let gate = gate-known joined .1 in (
       s .pre .0 .tables,
       s .pre .1,
-      gated (gate .gate-at .result) (here pair .stands) (gate-read gate) (s .pre .0),
+      gated (joined .if1 .gate) (here pair .stands) gate (s .pre .0),
       omega (arith, s .pre .1 .slices .nodes-few, here pair .stands .high),
-      variable-here (gate .gate-at .result) (here pair .stands) (gate-read gate) variable,
+      variable-here (joined .if1 .gate) (here pair .stands) gate variable,
       omega (arith, s .pre .1 .slices .nodes-few, few, pair .before .loop-test .taken),
       E.emitting-fits 65536 (s .pre .3) (at .loop .inv .1) (omega (arith, few, pair .before .loop-test .taken)),
       at .loop .inv .2,
@@ -94,7 +115,7 @@ pair-clauses-requires c κs =
 
 add-k : tie.Need-add-k Inv-loop μ-loop
 add-k c =
-    let pair = paired (c .before .before .before .before .before .before) in
+    let pair = c .before .before .before .before .before .before .before .before in
     omega (arith, pair .before .loop-test .taken, start (looped pair) .pre .1 .slices .pairs-few)
 
 loop-less : tie.Need-loop-less Inv-loop μ-loop
@@ -103,14 +124,21 @@ loop-less c = search needs
 loop-again : tie.Need-loop-again Inv-loop μ-loop
 loop-again c =
     let variable = c .before .before .before .before .before in
-    let gate = variable .before in
-    let pair = paired gate in (
+    let joined = variable .before in
+    let pair = joined .before .before in
+    let gate = gate-known joined in (
       omega (arith, pair .before .loop-test .taken),
       E.emitting-more (looped pair .loop .inv .1)
           (E.emits-as gateMost (c .before .pair-clauses .ensures .0)
-          (pair-here (gate .gate-at .result) (here pair .stands) (gate-read gate) (here pair .is))
+          (pair-here (joined .if1 .gate) (here pair .stands) (gate .1) (here pair .is))
           (omega arith)),
       c .before .pair-clauses .ensures .1,
+      λ h.
+          gate .1
+          ∙ ap
+          (λ (n : ℕ). gateAt (start (looped pair) .args .file .now) (start (looped pair) .args .shape)
+          (n - start (looped pair) .args .shape .inputs))
+          (sym (joined .before .node-of .ensures) ∙ sym (gate .0)),
     )
 
 same-length : tie.Need-same-length Inv-loop μ-loop
