@@ -35,6 +35,7 @@ module _ {A : Type 0} where
       ap₂ (λ a b. a && b) (h x (Memᴰ.head refl)) (all-cong f g xs (λ y m. h y (Memᴰ.tail m)))
 
   pub all-at : (f : A → Bool) (l : List A) → T (all f l) → (x : A) → Memᴰ x l → T (f x)
+  all-at f [] t x none = elim none [ ]
   all-at f (y ∷ ys) t x (Memᴰ.head e) = subst (λ z. T (f z)) (sym e) (and_left (f y) (all f ys) t)
   all-at f (y ∷ ys) t x (Memᴰ.tail m) = all-at f ys (and_right (f y) (all f ys) t) x m
 
@@ -44,6 +45,7 @@ module _ {A : Type 0} where
       and_both (f y) (all f ys) (h y (Memᴰ.head refl)) (all_of f ys (λ x m. h x (Memᴰ.tail m)))
 
   pub any_of : (f : A → Bool) (l : List A) (x : A) → Memᴰ x l → T (f x) → T (any f l)
+  any_of f [] x none t = elim none [ ]
   any_of f (y ∷ ys) x (Memᴰ.head e) t = or_left (f y) (any f ys) (subst (λ z. T (f z)) e t)
   any_of f (y ∷ ys) x (Memᴰ.tail m) t = or_right (f y) (any f ys) (any_of f ys x m t)
 
@@ -87,7 +89,8 @@ module _ {A B : Type 0} where
   pub concat_map-append : (f : A → List B) (l m : List A) → concat_map f (l ++ m) ≡ concat_map f l ++ concat_map f m
   concat_map-append f [] m = refl
   concat_map-append f (x ∷ l) m =
-      ap (λ (t : List B). f x ++ t) (concat_map-append f l m) ∙ sym (append_assoc (f x) (concat_map f l) (concat_map f m))
+      ap (λ (t : List B). f x ++ t) (concat_map-append f l m)
+      ∙ sym (append_assoc (f x) (concat_map f l) (concat_map f m))
 
   pub all-concat_map : (p : B → Bool) (f : A → List B) (l : List A) →
       all p (concat_map f l) ≡ all (λ x. all p (f x)) l
@@ -110,6 +113,7 @@ module _ {A B : Type 0} where
   any-map p f (x ∷ xs) = ap (λ b. p (f x) || b) (any-map p f xs)
 
   pub mem-map : (f : A → B) (l : List A) (x : A) → Memᴰ x l → Memᴰ (f x) (map f l)
+  mem-map f [] x none = elim none [ ]
   mem-map f (y ∷ l) x (Memᴰ.head e) = Memᴰ.head (ap f e)
   mem-map f (y ∷ l) x (Memᴰ.tail m) = Memᴰ.tail (mem-map f l x m)
 
@@ -137,6 +141,7 @@ module _ {A B : Type 0} where
 
   pub mem-concat_map : (f : A → List B) (l : List A) (x : A) (y : B) → Memᴰ x l → Memᴰ y (f x) →
       Memᴰ y (concat_map f l)
+  mem-concat_map f [] x y none i = elim none [ ]
   mem-concat_map f (z ∷ l) x y (Memᴰ.head e) i =
       Memᴰ.append_left (concat_map f l) (subst (λ a. Memᴰ y (f a)) e i)
   mem-concat_map f (z ∷ l) x y (Memᴰ.tail m) i = Memᴰ.append_right (f z) (mem-concat_map f l x y m i)
@@ -145,6 +150,7 @@ module _ {A B : Type 0} where
 
 module _ {A : Type 0} (f : A → Bool) where
   pub keep-in : (l : List A) (x : A) → Memᴰ x l → T (f x) → Memᴰ x (keep f l)
+  keep-in [] x none t = elim none [ ]
   keep-in (y ∷ l) x (Memᴰ.head e) t = go (f y) (subst (λ z. T (f z)) e t)
     where
       go : (b : Bool) → T b → Memᴰ x (cond b (y ∷ keep f l) (keep f l))

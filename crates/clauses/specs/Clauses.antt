@@ -1,5 +1,23 @@
 -- Clauses, and a list of clauses as one list of signed numbers, each clause ended by 0. Interface: all of it.
-use Rattle.std.specs.Prelude.{Bool, true, false, not, cond, List, [], ◌∷◌, ◌++◌, map, ℕ, zero, suc, ℤ, pos, negsuc, neg_ℤ}
+use Rattle.std.specs.Prelude.{
+  Bool,
+  true,
+  false,
+  not,
+  cond,
+  List,
+  [],
+  ◌∷◌,
+  ◌++◌,
+  map,
+  ℕ,
+  zero,
+  suc,
+  ℤ,
+  pos,
+  negsuc,
+  neg_ℤ,
+}
 use Rattle.std.specs.Bool.{beq}
 use Rattle.basics.specs.Lists.{any, all}
 

@@ -1,5 +1,7 @@
 // Signed 32-bit numbers of a clause list, read and written as codes: the only code that touches a sign.
 // Assumes nothing.
+#![tactic(auto)]
+
 ghost use Rattle.std.specs.Prelude.{◌≡◌, ◌+◌, ◌/◌, ◌<◌, pos, length, get_or, set};
 ghost use Rattle.clauses.specs.Codes.{code_of, decoded, signed_of};
 

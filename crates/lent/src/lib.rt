@@ -1,5 +1,7 @@
 // What every call does with what its caller lends: zeros in slices of three element types, one slice copied to the
 // front of another, numbers out of bytes. Assumes nothing.
+#![tactic(auto)]
+
 ghost use Rattle.std.specs.Prelude.{◌≡◌, ◌++◌, ◌+◌, ◌-◌, ◌≤◌, ◌<◌, pos, length, take, replicate};
 ghost use Rattle.lent.specs.Bytes.{two_bytes, four_bytes};
 ghost use Rattle.lent.specs.Copied.{Copied};
@@ -108,7 +110,9 @@ pub fn copy_u8(from: &[u8], slice: &mut [u8])
     }
 }
 
-// One slice of 32-bit numbers to the front of another.
+// One slice of 32-bit numbers to the front of another. Not laid into its callers: there LLVM makes a call of memcpy of
+// it, and a C host owes memset alone.
+#[inline(never)]
 pub fn copy_u32(from: &[u32], slice: &mut [u32])
     requires { length from.now ≤ length slice.old }
     ensures { Copied from.now slice.old slice.new }

@@ -1,9 +1,11 @@
 // The table of refusals (rule T1) as one enum, and the number and place that each case stands for. Assumes nothing.
+#![tactic(auto)]
+
 ghost use Rattle.std.specs.Prelude.{◌≡◌};
 ghost use Rattle.refusal.specs.Table.{number_of, place_of};
 
 // One case a row of the table, in its order; a case carries its place where the place is not always 0.
-#[derive(Drop)]
+#[derive(Clone, Copy)]
 pub enum Refusal {
     Short(usize),
     Version(usize),
@@ -25,7 +27,7 @@ pub enum Refusal {
 }
 
 // What rows of the table say of what a call was given: it passes them all, or the first that refuses.
-#[derive(Drop)]
+#[derive(Clone, Copy)]
 pub enum Checked {
     Passes,
     Refused(Refusal),
