@@ -106,7 +106,8 @@ module _ {file : List ℕ} {shape : Shape} (p : Passed file shape) where
         p.pins.gates.sum,
       )
 
-  kind-right : (gate : ℕ) → gate < shape.gates → T (takes (kind_of (kind_at file shape gate)) (count_at file shape gate))
+  kind-right : (gate : ℕ) → gate < shape.gates →
+      T (takes (kind_of (kind_at file shape gate)) (count_at file shape gate))
   kind-right gate h =
       kind-takes (kind_at file shape gate) (count_at file shape gate)
       (passes (gate-count gate h))
@@ -143,7 +144,8 @@ module _ {file : List ℕ} {shape : Shape} (p : Passed file shape) where
       (shape.inputs + gate, pin)
       (mem-concat_map (pins_at file shape) (up_from 0 shape.gates) gate (shape.inputs + gate, pin)
       (up_from-mem 0 shape.gates gate (omega arith) (omega arith))
-      (mem-map (λ pin. (shape.inputs + gate, pin)) (up_from (pins_before file shape gate) (count_at file shape gate)) pin
+      (mem-map (λ pin. (shape.inputs + gate, pin)) (up_from (pins_before file shape gate) (count_at file shape gate))
+      pin
       (up_from-mem (pins_before file shape gate) (count_at file shape gate) pin (omega arith) (omega arith))))
 
   driver-below : (gate pin : ℕ) → gate < shape.gates → first_at file shape gate ≤ pin →

@@ -40,7 +40,8 @@ module _ {A : Type 0} (wrong : A → Bool) where
   first-in-left [] m h = absurd (omega arith)
   first-in-left (x ∷ l) m h = go (wrong x) refl (λ k. first-in-left l m k)
     where
-      go : (b : Bool) → wrong x ≡ b → (first_wrong wrong l < length l → first_wrong wrong (l ++ m) ≡ first_wrong wrong l) →
+      go : (b : Bool) → wrong x ≡ b →
+          (first_wrong wrong l < length l → first_wrong wrong (l ++ m) ≡ first_wrong wrong l) →
           first_wrong wrong (x ∷ (l ++ m)) ≡ first_wrong wrong (x ∷ l)
       go true e r = first-here x (l ++ m) e ∙ sym (first-here x l e)
       go false e r =
@@ -114,7 +115,8 @@ module _ {wrong : ℕ → Bool} {from count at : ℕ} (s : Searching wrong from 
         high = omega arith;
         left =
             ap (λ (m : ℕ). m + first_wrong wrong (up_from m k)) f
-            ∙ (let z : suc at + first_wrong wrong (up_from (suc at) k) ≡ at + suc (first_wrong wrong (up_from (suc at) k)) =
+            ∙ (let z : suc at + first_wrong wrong (up_from (suc at) k)
+            ≡ at + suc (first_wrong wrong (up_from (suc at) k)) =
             omega arith
             in
             z)

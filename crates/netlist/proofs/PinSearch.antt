@@ -130,7 +130,8 @@ module _ {file : List ℕ} {shape : Shape} {from gate : ℕ} (s : PinSearching f
       let i = s.is in
       omega (arith, pins-before-next file shape gate, pins-before-up file shape (suc gate) shape.gates (omega arith))
 
-  left-cons : gate < shape.gates → pins_from file shape gate ≡ pins_at file shape gate ++ pins_from file shape (gate + 1)
+  left-cons : gate < shape.gates →
+      pins_from file shape gate ≡ pins_at file shape gate ++ pins_from file shape (gate + 1)
   left-cons h =
       let e : shape.gates - gate ≡ suc (shape.gates - (gate + 1)) = omega arith in
       let f : suc gate ≡ gate + 1 = omega arith in
@@ -182,5 +183,6 @@ module _ {file : List ℕ} {shape : Shape} {from gate : ℕ} (s : PinSearching f
       let z : from ≡ from + 0 = omega arith in
       z
       ∙ ap (λ (n : ℕ). from + n) (sym (first-none (pin_wrong file shape)))
-      ∙ ap (λ (n : ℕ). from + first_wrong (pin_wrong file shape) (concat_map (pins_at file shape) (up_from gate n))) (sym e)
+      ∙ ap (λ (n : ℕ). from + first_wrong (pin_wrong file shape) (concat_map (pins_at file shape) (up_from gate n)))
+      (sym e)
       ∙ s.left

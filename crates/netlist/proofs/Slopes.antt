@@ -2,7 +2,7 @@
 -- delays that are small; and the pins themselves where the list has their own delays. And a list of so many small
 -- delays passes row 19. Laws: pins-for-length, pins-for-only, slowest-only, pins-for-equal, slowest-equal, small-
 -- passes. Assumes nothing.
-use mathlib.Core.Path.{◌≡◌, refl, sym, ap, ap₂, ◌∙◌}
+use mathlib.Core.Path.{◌≡◌, refl, ap, ap₂, ◌∙◌}
 use mathlib.Core.Bool.{Bool, true, false}
 use mathlib.Core.List.{List, [], ◌∷◌, map, Memᴰ}
 use Prim.Native.Nat.{ℕ, suc, ◌≤◌, max}

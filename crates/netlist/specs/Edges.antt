@@ -5,7 +5,6 @@ use Rattle.std.specs.Prelude.{◌≡◌, refl, List, [], ◌∷◌, ◌++◌, ma
 use Rattle.basics.specs.Lists.{concat_map, numbered}
 use Rattle.refusal.specs.declared.Refusal.{Refusal}
 use Rattle.refusal.specs.declared.Refusal.TheVariants.{Short, Version, Count, Back, Gate, Pin, Output}
-use Rattle.netlist.specs.declared.Shape.{Shape}
 use Rattle.netlist.specs.declared.Opened.{Opened}
 use Rattle.netlist.specs.declared.Opened.TheVariants.{Accepted, Refused}
 use Rattle.netlist.specs.Kinds.{pins_fit, kind_of}
@@ -149,6 +148,7 @@ edges = frames ++ (counts ++ ends)
 -- each file is answered so
 pub edges-hold : map (λ (c : Case). open_of c.file) edges ≡ map (λ (c : Case). c.answer) edges
 unfolding
-    edges frames counts ends written one_gate open_of netlist_rows first_wrong count_wrong back_wrong pins_before gate_wrong
-    gate_place sum_wrong pins_at pin_wrong pin_place output_wrong output_place pins_fit kind_of table_bytes shape_of
+    edges frames counts ends written one_gate open_of netlist_rows first_wrong count_wrong back_wrong pins_before
+    gate_wrong gate_place sum_wrong pins_at pin_wrong pin_place output_wrong output_place pins_fit kind_of
+    table_bytes shape_of
 edges-hold = refl

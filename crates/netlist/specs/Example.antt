@@ -5,7 +5,17 @@ use Rattle.netlist.specs.declared.Kind.TheVariants.{Simple}
 use Rattle.netlist.specs.declared.Opened.TheVariants.{Accepted}
 use Rattle.netlist.specs.Netlist.{Netlist, Pin}
 use Rattle.netlist.specs.Kinds.{pins_fit, kind_of}
-use Rattle.netlist.specs.File.{table_bytes, shape_of, gate_at, pin_at, pins_from, cell_of, cell_at, netlist_at, netlist_of}
+use Rattle.netlist.specs.File.{
+  table_bytes,
+  shape_of,
+  gate_at,
+  pin_at,
+  pins_from,
+  cell_of,
+  cell_at,
+  netlist_at,
+  netlist_of,
+}
 use Rattle.netlist.specs.Open.{
   open_of,
   netlist_rows,
@@ -49,7 +59,7 @@ described_a =
 -- they are accepted, and say that circuit
 pub decodes : (open_of circuit_a ≡ Accepted (shape_of circuit_a)) × (netlist_of circuit_a ≡ described_a)
 unfolding
-    circuit_a described_a open_of netlist_rows first_wrong count_wrong back_wrong pins_before gate_wrong gate_place sum_wrong
-    pins_at pin_wrong pin_place output_wrong output_place pins_fit kind_of table_bytes shape_of gate_at pin_at pins_from
-    cell_of cell_at netlist_at
+    circuit_a described_a open_of netlist_rows first_wrong count_wrong back_wrong pins_before gate_wrong gate_place
+    sum_wrong pins_at pin_wrong pin_place output_wrong output_place pins_fit kind_of table_bytes shape_of gate_at
+    pin_at pins_from cell_of cell_at netlist_at
 decodes = (refl, refl)

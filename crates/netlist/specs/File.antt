@@ -75,7 +75,11 @@ output_at file shape position = two_bytes file (shape.tables + shape.gates * 4 +
 -- a gate as one record, its kind with what this kind needs (rule K5)
 unfoldable pub gate_at : List ℕ → Shape → ℕ → Gate
 gate_at file shape gate =
-    record { kind = kind_of (kind_at file shape gate); first = first_at file shape gate; count = count_at file shape gate }
+    record {
+      kind = kind_of (kind_at file shape gate);
+      first = first_at file shape gate;
+      count = count_at file shape gate;
+    }
 
 -- a pin by its number
 unfoldable pub pin_at : List ℕ → Shape → ℕ → Pin

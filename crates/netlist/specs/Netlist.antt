@@ -1,5 +1,24 @@
 -- A netlist as data, apart from its bytes: inputs, gates with their pins, outputs. Interface: all of it.
-use Rattle.std.specs.Prelude.{Bool, true, false, ◌&&◌, List, [], ◌∷◌, map, ℕ, suc, ◌+◌, max, leb, ltb, eqb, length, get_or, replicate}
+use Rattle.std.specs.Prelude.{
+  Bool,
+  true,
+  false,
+  ◌&&◌,
+  List,
+  [],
+  ◌∷◌,
+  map,
+  ℕ,
+  suc,
+  ◌+◌,
+  max,
+  leb,
+  ltb,
+  eqb,
+  length,
+  get_or,
+  replicate,
+}
 use Rattle.basics.specs.Lists.{all, numbered}
 use Rattle.netlist.specs.declared.Form.{Form}
 use Rattle.netlist.specs.declared.Form.TheVariants.{Single, RiseFall}

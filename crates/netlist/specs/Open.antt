@@ -1,7 +1,28 @@
 -- Rows 1 to 7, 16 and 19 of the table of refusals (rule T1), in the sequence of rules C3 and C4: no pin until all gates
--- are right, no output until all pins are, no arrival until the netlist is. Interface: netlist_rows, open_of, list_rows,
+-- are right, no output until all pins are, no arrival until the netlist is. Interface: netlist_rows, open_of,
+-- list_rows,
 -- arrival_rows, circuit_rows, open_circuit_of, arrived_of, fall_rows, rows_over, call_over.
-use Rattle.std.specs.Prelude.{Bool, not, ◌&&◌, ◌||◌, cond, List, [], ◌∷◌, ◌++◌, map, ℕ, zero, suc, ◌+◌, ◌-◌, leb, ltb, eqb, length}
+use Rattle.std.specs.Prelude.{
+  Bool,
+  not,
+  ◌&&◌,
+  ◌||◌,
+  cond,
+  List,
+  [],
+  ◌∷◌,
+  ◌++◌,
+  map,
+  ℕ,
+  zero,
+  suc,
+  ◌+◌,
+  ◌-◌,
+  leb,
+  ltb,
+  eqb,
+  length,
+}
 use Rattle.basics.specs.Lists.{up_from, concat_map}
 use Rattle.refusal.specs.declared.Refusal.{Refusal}
 use Rattle.refusal.specs.declared.Refusal.TheVariants.{Short, Version, Count, Back, Gate, Pin, Output, Arrival, Fall}
@@ -16,9 +37,7 @@ use Rattle.netlist.specs.File.{
   back,
   version,
   inputs,
-  gates,
   pins,
-  outputs,
   table_bytes,
   shape_of,
   circuit_of,
@@ -153,6 +172,7 @@ rows_over file arrivals slopes rows =
     circuit_rows file arrivals ++ (slope_rows (shape_of file).pins slopes ++ rows (circuit_of file arrivals slopes))
 
 -- what such a call comes to
-abbrev pub call_over : {A : Type 0} → List ℕ → List ℕ → Slopes → (Circuit → List Row) → (Refusal → A) → (Circuit → A) → A
+abbrev pub call_over : {A : Type 0} → List ℕ → List ℕ → Slopes → (Circuit → List Row) → (Refusal → A) → (Circuit → A) →
+    A
 call_over file arrivals slopes rows refused passed =
     unless_refused (checked (rows_over file arrivals slopes rows)) refused (passed (circuit_of file arrivals slopes))

@@ -1,5 +1,7 @@
 // The netlist file, and the arrivals of its inputs: accepted, with the file's shape, or refused with the table's number
 // and place; and the reads of an accepted file. Assumes nothing.
+#![tactic(auto)]
+
 ghost use Rattle.std.specs.Prelude.{◌≡◌, ◌&&◌, ◌+◌, ◌-◌, ◌*◌, ◌≤◌, ◌<◌, leb, ltb, length};
 ghost use Rattle.netlist.specs.Kinds.{kind_of, inverts, pins_fit};
 ghost use Rattle.netlist.specs.File.{gate_at, count_at, driver_at, delay_at, output_at, shape_of, table_bytes};
@@ -12,7 +14,7 @@ ghost use Rattle.netlist.specs.Holds.{InRange, Tables, Framed};
 use refusal::{Checked, Refusal};
 
 // What a gate does: c and k of a simple gate; a parity gate's value for equal pins; nothing for a multiplexer.
-#[derive(Drop)]
+#[derive(Clone, Copy)]
 pub enum Kind {
     Simple { c: bool, k: bool },
     Parity(bool),
@@ -20,14 +22,14 @@ pub enum Kind {
 }
 
 // Whether a pin has one delay, or one for each final value of its gate, the second list being lent beside the file.
-#[derive(Drop)]
+#[derive(Clone, Copy)]
 pub enum Form {
     Single,
     RiseFall,
 }
 
 // One gate: its kind, the number of its first pin, and how many pins it has.
-#[derive(Drop)]
+#[derive(Clone, Copy)]
 pub struct Gate {
     pub kind: Kind,
     pub first: usize,
@@ -35,7 +37,7 @@ pub struct Gate {
 }
 
 // The four counts of an accepted file, and where its tables begin.
-#[derive(Drop)]
+#[derive(Clone, Copy)]
 pub struct Shape {
     pub inputs: usize,
     pub gates: usize,
@@ -45,7 +47,7 @@ pub struct Shape {
 }
 
 // The answer for a file.
-#[derive(Drop)]
+#[derive(Clone, Copy)]
 pub enum Opened {
     Accepted(Shape),
     Refused(Refusal),
@@ -242,7 +244,7 @@ fn gate_wrong(file: &[u8], shape: Shape, gate: usize, before: usize) -> bool
 }
 
 // The first wrong gate, or G, and the sum of the pin counts before it.
-#[derive(Drop)]
+#[derive(Clone, Copy)]
 struct GatePlace {
     gate: usize,
     before: usize,
@@ -286,7 +288,8 @@ fn pin_wrong(file: &[u8], shape: Shape, node: usize, pin: usize) -> bool
 // The first wrong pin of a gate whose pins begin at `from`, or the pin after its last.
 fn pin_place_of_gate(file: &[u8], shape: Shape, gate: usize, from: usize) -> usize
     requires tables { Tables file.now shape × InRange shape × (gate < shape.gates) }
-    requires from_value { (from ≡ pins_before file.now shape gate) × (from + count_at file.now shape gate ≤ shape.pins) }
+    requires from_value { (from ≡ pins_before file.now shape gate)
+        × (from + count_at file.now shape gate ≤ shape.pins) }
     ensures { result ≡ from + right_pins file.now shape gate }
 {
     let node = shape.inputs + gate;

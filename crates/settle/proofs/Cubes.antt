@@ -5,7 +5,7 @@ use mathlib.Core.Path.{◌≡◌, refl, sym, ap, ◌∙◌, subst}
 use mathlib.Core.Bool.{Bool, true, false, cond}
 use mathlib.Core.List.Memᴰ
 use mathlib.Core.List.{List, [], ◌∷◌, map, Memᴰ}
-use Prim.Native.Nat.{ℕ, ◌≤◌, max, min}
+use Prim.Native.Nat.{ℕ, ◌≤◌, min}
 use native.Mathlib.Omega.{arith}
 use Rattle.basics.specs.Lists.{keep}
 use Rattle.basics.proofs.Lists.{map-mem, keep-within}
@@ -67,6 +67,7 @@ cube-pin {P} Mux (select ∷ a ∷ b ∷ ps) cube m l i = go m
 
 -- a pin is ready no later than the last
 pin-last : {P : Type 0} (ready : P → ℕ) (ps : List P) (p : P) → Memᴰ p ps → ready p ≤ last ready ps
+pin-last {P = P} ready [] p none = elim none [ ]
 pin-last ready (q ∷ ps) p (Memᴰ.head e) = let f = ap ready e in omega arith
 pin-last ready (q ∷ ps) p (Memᴰ.tail m) = let f = pin-last ready ps p m in omega arith
 

@@ -24,7 +24,17 @@ use Rattle.netlist.specs.declared.Shape.{Shape}
 use Rattle.netlist.specs.declared.Gate.{Gate}
 use Rattle.netlist.specs.Netlist.{Circuit, Cell, Pin, nodes, takes, Slopes, pins_for}
 use Rattle.netlist.specs.Kinds.{bit}
-use Rattle.netlist.specs.File.{gate_at, cell_at, cell_of, netlist_at, circuit_at, circuit_with, pins_from, first_at, count_at}
+use Rattle.netlist.specs.File.{
+  gate_at,
+  cell_at,
+  cell_of,
+  netlist_at,
+  circuit_at,
+  circuit_with,
+  pins_from,
+  first_at,
+  count_at,
+}
 use Rattle.netlist.specs.Holds.{Holds, Arrived, Given, Small}
 use Rattle.netlist.proofs.Slopes.{pins-for-only}
 use Rattle.netlist.proofs.Entries.{node-has, node-count, net-inputs}

@@ -243,7 +243,8 @@ module _ (values times falls : List ℕ) where
     module _ (select a b : Pin) {chooses x y : Bool} (s : chooses ≡ pin_value values select)
         (u : x ≡ pin_value values a) (v : y ≡ pin_value values b) (e : ends ≡ cond chooses y x) where
       pub apart-mux-one : chooses ≡ true →
-          chosen_signal (pin_ready times (for select)) (pin_signal values times (for b)) (pin_signal values times (for a))
+          chosen_signal (pin_ready times (for select)) (pin_signal values times (for b))
+          (pin_signal values times (for a))
           ≡ sloped_signal (apart falls) values times Mux (select ∷ a ∷ b ∷ [])
       unfolding chosen_signal pin_signal
       apart-mux-one one =
@@ -252,7 +253,8 @@ module _ (values times falls : List ℕ) where
           (pin-for-value ends b ∙ sym (e ∙ ap (λ (t : Bool). cond t y x) one ∙ v))
 
       pub apart-mux-zero : chooses ≡ false →
-          chosen_signal (pin_ready times (for select)) (pin_signal values times (for a)) (pin_signal values times (for b))
+          chosen_signal (pin_ready times (for select)) (pin_signal values times (for a))
+          (pin_signal values times (for b))
           ≡ sloped_signal (apart falls) values times Mux (select ∷ a ∷ b ∷ [])
       unfolding chosen_signal pin_signal
       apart-mux-zero none =

@@ -2,7 +2,17 @@
 -- circuit A. Interface: Case, run, cases, late_cases, cases-hold, tops-hold.
 use Rattle.std.specs.Prelude.{◌≡◌, refl, List, [], ◌∷◌, map, ℕ, length, replicate}
 use Rattle.netlist.specs.Kinds.{pins_fit, kind_of}
-use Rattle.netlist.specs.File.{table_bytes, shape_of, gate_at, pin_at, cell_of, cell_at, netlist_at, circuit_of, pins_from}
+use Rattle.netlist.specs.File.{
+  table_bytes,
+  shape_of,
+  gate_at,
+  pin_at,
+  cell_of,
+  cell_at,
+  netlist_at,
+  circuit_of,
+  pins_from,
+}
 use Rattle.netlist.specs.Open.{
   netlist_rows,
   arrival_rows,
@@ -115,15 +125,16 @@ run c =
 -- each case is evaluated as expected
 pub cases-hold : map run cases ≡ map (λ c. c.expected) cases
 unfolding
-    cases circuit_a xor_twice mux_of_three netlist_rows first_wrong count_wrong back_wrong pins_before gate_wrong gate_place
-    sum_wrong pins_at pin_wrong pin_place output_wrong output_place pins_fit kind_of table_bytes shape_of gate_at pin_at
-    pins_from cell_of cell_at netlist_at gate_value settles grow values_of times_of circuit_time evaluation given_rows settled
-    arrival_rows
+    cases circuit_a xor_twice mux_of_three netlist_rows first_wrong count_wrong back_wrong pins_before gate_wrong
+    gate_place sum_wrong pins_at pin_wrong pin_place output_wrong output_place pins_fit kind_of table_bytes shape_of
+    gate_at pin_at pins_from cell_of cell_at netlist_at gate_value settles grow values_of times_of circuit_time
+    evaluation given_rows settled arrival_rows
 cases-hold = refl
 
 -- the tops of circuit A: its topological delay is 5, and 6 with b at 4
 pub tops-hold :
     (tops_of (circuit_of circuit_a (0 ∷ 0 ∷ []) alike) ≡ 0 ∷ 0 ∷ 3 ∷ 4 ∷ 5 ∷ [])
     × (tops_of (circuit_of circuit_a (0 ∷ 4 ∷ []) alike) ≡ 0 ∷ 4 ∷ 3 ∷ 5 ∷ 6 ∷ [])
-unfolding circuit_a pins_fit kind_of table_bytes shape_of gate_at pin_at pins_from cell_of cell_at netlist_at grow tops_of
+unfolding circuit_a pins_fit kind_of table_bytes shape_of gate_at pin_at pins_from cell_of cell_at netlist_at grow
+    tops_of
 tops-hold = (refl, refl)

@@ -235,8 +235,9 @@ edges = every_kind ++ (orders ++ (late_cases ++ (late_orders ++ (apart_kinds ++ 
 -- each is evaluated so
 pub edges-hold : map run edges ≡ map (λ (c : Case). c.expected) edges
 unfolding
-    edges every_kind orders late_cases late_orders apart_kinds apart_cases apart_orders written one_gate circuit_a netlist_rows
-    first_wrong count_wrong back_wrong pins_before gate_wrong gate_place sum_wrong pins_at pin_wrong pin_place output_wrong
-    output_place pins_fit kind_of table_bytes shape_of gate_at pin_at pins_from cell_of cell_at netlist_at gate_value settles grow
-    values_of times_of circuit_time evaluation given_rows settled arrival_rows fall_rows
+    edges every_kind orders late_cases late_orders apart_kinds apart_cases apart_orders written one_gate circuit_a
+    netlist_rows first_wrong count_wrong back_wrong pins_before gate_wrong gate_place sum_wrong pins_at pin_wrong
+    pin_place output_wrong output_place pins_fit kind_of table_bytes shape_of gate_at pin_at pins_from cell_of
+    cell_at netlist_at gate_value settles grow values_of times_of circuit_time evaluation given_rows settled
+    arrival_rows fall_rows
 edges-hold = refl

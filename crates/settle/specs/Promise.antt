@@ -1,7 +1,7 @@
 -- What `evaluate` and `evaluate_rise_fall` answer and leave in the two lent slices, for every input: 1..7, 16, 19 and
 -- 8, then 9 for values, then for times.
 -- Interface: evaluation, Meets.
-use Rattle.std.specs.Prelude.{◌≡◌, Bool, List, [], ◌∷◌, ◌++◌, map, ℕ, ◌-◌, eqb, length, replicate}
+use Rattle.std.specs.Prelude.{◌≡◌, Bool, List, [], ◌∷◌, ◌++◌, map, ℕ, ◌-◌, eqb, replicate}
 use Rattle.refusal.specs.declared.Refusal.{Refusal}
 use Rattle.refusal.specs.declared.Refusal.TheVariants.{Vector}
 use Rattle.refusal.specs.Rows.{Row, checked, unless_refused, room_row}

@@ -14,7 +14,8 @@ module _ {P : Type 0} (value : P → Bool) where
   unfoldable pub gate_value : Kind → List P → Bool
   gate_value (Simple c k) ps = cond (any (λ p. beq (value p) c) ps) k (not k)
   gate_value (Parity equal) [] = equal
-  gate_value (Parity equal) (p ∷ ps) = cond (value p) (not (gate_value (Parity equal) ps)) (gate_value (Parity equal) ps)
+  gate_value (Parity equal) (p ∷ ps) =
+      cond (value p) (not (gate_value (Parity equal) ps)) (gate_value (Parity equal) ps)
   gate_value Mux [] = false
   gate_value Mux (select ∷ []) = false
   gate_value Mux (select ∷ a ∷ []) = false

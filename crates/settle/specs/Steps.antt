@@ -1,6 +1,29 @@
 -- What the functions under `evaluate` lean on and what each of them makes, step by step. Serves their contracts alone:
 -- Promise says what `evaluate` does, and does not cite it.
-use Rattle.std.specs.Prelude.{◌≡◌, Bool, true, false, ◌||◌, cond, List, [], ◌∷◌, ◌++◌, map, ℕ, ◌+◌, ◌≤◌, ◌<◌, max, min, eqb, length, get_or, take, drop}
+use Rattle.std.specs.Prelude.{
+  ◌≡◌,
+  Bool,
+  true,
+  false,
+  ◌||◌,
+  cond,
+  List,
+  [],
+  ◌∷◌,
+  ◌++◌,
+  map,
+  ℕ,
+  ◌+◌,
+  ◌≤◌,
+  ◌<◌,
+  max,
+  min,
+  eqb,
+  length,
+  get_or,
+  take,
+  drop,
+}
 use Rattle.std.specs.Bool.{beq}
 use Rattle.netlist.specs.declared.Kind.{Kind}
 use Rattle.netlist.specs.declared.Shape.{Shape}

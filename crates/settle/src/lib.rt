@@ -1,5 +1,7 @@
 // Floating mode by controlling values: every node's final value and settling time, with one delay a pin or with one for
 // each final value of its gate. Assumes nothing.
+#![tactic(auto)]
+
 ghost use Rattle.std.specs.Prelude.{◌≡◌, cond, ◌+◌, ◌-◌, ◌≤◌, ◌<◌, max, min, T, ltb, eqb, length, get_or, take};
 ghost use Rattle.netlist.specs.Kinds.{bit};
 ghost use Rattle.netlist.specs.Netlist.{takes, alike, apart, slopes_by};
@@ -20,14 +22,14 @@ use netlist::{Form, Gate, Kind, Opened, Shape};
 use refusal::{Checked, Refusal};
 
 // The circuit's settling time, or a refusal.
-#[derive(Drop)]
+#[derive(Clone, Copy)]
 pub enum Settled {
     At(u32),
     Refused(Refusal),
 }
 
 // A final value, and when it is there: when a pin is ready, or a node settles.
-#[derive(Drop)]
+#[derive(Clone, Copy)]
 struct Signal {
     value: bool,
     at: u32,
@@ -35,7 +37,7 @@ struct Signal {
 
 // What a simple gate's pins say: whether some pin is at c, when the first of those is ready, and when the last of all
 // pins is.
-#[derive(Drop)]
+#[derive(Clone, Copy)]
 struct Scan {
     some: bool,
     first: u32,
