@@ -66,13 +66,16 @@ module _ (circuit : Circuit) (target pairs_room formula_room : ℕ) where
     unfolding building_rows
     pairs-fit =
         ltb-false (table_holds (pair_numbers circuit.slopes) pairs_room) (length (pairs_for circuit target))
-        (passed-by (ltb (table_holds (pair_numbers circuit.slopes) pairs_room) (length (pairs_for circuit target))) Pairs
+        (passed-by (ltb (table_holds (pair_numbers circuit.slopes) pairs_room) (length (pairs_for circuit target)))
+        Pairs
         (room_row (length (numbers_for circuit target)) formula_room ∷ []) e).0
 
     pub numbers_fit : length (numbers_for circuit target) ≤ formula_room
     unfolding building_rows
     numbers_fit =
         ltb-false formula_room (length (numbers_for circuit target))
-        (passed-by (ltb formula_room (length (numbers_for circuit target))) (Room (length (numbers_for circuit target))) []
-        (passed-by (ltb (table_holds (pair_numbers circuit.slopes) pairs_room) (length (pairs_for circuit target))) Pairs
+        (passed-by (ltb formula_room (length (numbers_for circuit target)))
+        (Room (length (numbers_for circuit target))) []
+        (passed-by (ltb (table_holds (pair_numbers circuit.slopes) pairs_room) (length (pairs_for circuit target)))
+        Pairs
         (room_row (length (numbers_for circuit target)) formula_room ∷ []) e).1).0

@@ -123,6 +123,8 @@ ready_by {l = l} {starts} s e b =
 -- a rail of a node that is asked for
 rail-small : (form : Form) (node nodes rail : ℕ) → node < nodes → Memᴰ rail (rails_by form node) →
     rail < rails_for form nodes
+rail-small Single node nodes rail h (Memᴰ.tail none) = elim none [ ]
+rail-small RiseFall node nodes rail h (Memᴰ.tail (Memᴰ.tail none)) = elim none [ ]
 rail-small Single node nodes rail h (Memᴰ.head e) = omega arith
 rail-small RiseFall node nodes rail h (Memᴰ.head e) = omega arith
 rail-small RiseFall node nodes rail h (Memᴰ.tail (Memᴰ.head e)) = omega arith
@@ -299,7 +301,8 @@ runs-within : {A B C : Type 0} (f : B → List C) (g : A → List B) (xs : List 
     concat_map (λ x. concat_map f (g x)) xs ≡ concat_map f (concat_map g xs)
 runs-within f g [] = refl
 runs-within {C = C} f g (x ∷ xs) =
-    ap (λ (l : List C). concat_map f (g x) ++ l) (runs-within f g xs) ∙ sym (concat_map-append f (g x) (concat_map g xs))
+    ap (λ (l : List C). concat_map f (g x) ++ l) (runs-within f g xs)
+    ∙ sym (concat_map-append f (g x) (concat_map g xs))
 
 -- two numbers at a time
 by-twos : {B : Type 0} (f : ℕ → List B) (a n : ℕ) →
@@ -320,7 +323,8 @@ codes_run a = code_run true a.late ++ code_run true a.more
 
 -- all codes, or those of each entry
 codes-read : (form : Form) (nodes lates : List ℕ) (count : ℕ) →
-    parts_run lates (rails_for form count) ≡ concat_map (λ i. codes_run (stored_at form nodes lates i)) (up_from 0 count)
+    parts_run lates (rails_for form count)
+    ≡ concat_map (λ i. codes_run (stored_at form nodes lates i)) (up_from 0 count)
 codes-read Single nodes lates count =
     each-as _ _ (λ i. sym (append-nil (code_run true (get_or lates i 0)))) (up_from 0 count)
 codes-read RiseFall nodes lates count = by-twos (λ i. code_run true (get_or lates i 0)) 0 count

@@ -129,6 +129,7 @@ module _ (file : List ℕ) (shape : Shape) (falls : List ℕ) where
   rail-back : (form : Form) (i : ℕ) (r : Rail) →
       Memᴰ r (rails_at (slopes_by form falls) (shape.inputs + i, cell_at file shape i)) →
       rail_at file shape form falls r.number ≡ r
+  rail-back Single i r (Memᴰ.tail none) = elim none [ ]
   rail-back Single i r (Memᴰ.head e) =
       let d : shape.inputs + i - shape.inputs ≡ i = omega arith in
       ap (λ (x : Rail). rail_at file shape Single falls x.number) e
@@ -165,6 +166,7 @@ module _ (file : List ℕ) (shape : Shape) (falls : List ℕ) where
           ap (λ (x : Rail). rail_at file shape RiseFall falls x.number) e
           ∙ back n false h (ne_eqb (n % 2) 1 (λ z. absurd (omega arith)))
           ∙ sym e
+      go (Memᴰ.tail (Memᴰ.tail none)) = elim none [ ]
       go (Memᴰ.tail (Memᴰ.head e)) =
           let n = (shape.inputs + i) * 2 + 1 in
           let h : n / 2 ≡ shape.inputs + i = omega arith in
@@ -256,7 +258,8 @@ module _ (file : List ℕ) (shape : Shape) (arrivals : List ℕ) (form : Form) (
       concat_map (λ x. gate_clauses node_variable x.1.kind x.1.pins x.0) (nodes net) in
       let of_pairs : List (List Literal) = concat_map of_gate (nodes net) in
       let last : List (List Literal) =
-      clause_of (concat_map (λ o. node_late slopes shape.inputs (top_of circuit) node_variable (variable_in put) o target)
+      clause_of (concat_map
+      (λ o. node_late slopes shape.inputs (top_of circuit) node_variable (variable_in put) o target)
       net.outputs) in
       ap₂ (λ (a b : List Token). (a ++ b) ++ tokens_of last) gates-put pairs-put
       ∙ append_assoc (tokens_of of_cells) (tokens_of of_pairs) (tokens_of last)

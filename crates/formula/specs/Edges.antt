@@ -211,14 +211,12 @@ pub edges-hold :
     building c.file c.arrivals alike c.target (length c.leaves.pairs) (length c.leaves.formula)) edges
     ≡ map (λ (c : Case). c.leaves) edges
 unfolding
-    edges every_kind targets orders late_inputs mux_of_buffers written one_gate circuit_a xor_twice mux_of_three netlist_rows
-    arrival_rows
-    first_wrong count_wrong
-    back_wrong pins_before gate_wrong gate_place sum_wrong pins_at pin_wrong pin_place output_wrong output_place pins_fit kind_of
-    table_bytes shape_of gate_at pin_at pins_from cell_of cell_at netlist_at grow tops_of flat asked times_at pair_list
-    flat_pairs lent_pairs
-    pairs_for pair_place clause_of gate_clauses late pair_clauses formula pair_variable formula_for numbers_for counts_for
-    built building_rows building printed gate_lines
+    edges every_kind targets orders late_inputs mux_of_buffers written one_gate circuit_a xor_twice mux_of_three
+    netlist_rows arrival_rows first_wrong count_wrong back_wrong pins_before gate_wrong gate_place sum_wrong pins_at
+    pin_wrong pin_place output_wrong output_place pins_fit kind_of table_bytes shape_of gate_at pin_at pins_from
+    cell_of cell_at netlist_at grow tops_of flat asked times_at pair_list flat_pairs lent_pairs pairs_for pair_place
+    clause_of gate_clauses late pair_clauses formula pair_variable formula_for numbers_for counts_for built
+    building_rows building printed gate_lines
 edges-hold = refl
 
 -- the pairs that a table of so many numbers holds: half as many, and 65,536 at most

@@ -1,6 +1,31 @@
 -- What serves the code that writes the formula: the numbers that it puts one after the other, how far it has come, and
 -- how many numbers there can be.
-use Rattle.std.specs.Prelude.{◌≡◌, Bool, true, false, not, ◌||◌, cond, List, [], ◌∷◌, ◌++◌, map, ℕ, suc, ◌+◌, ◌*◌, ◌/◌, ◌%◌, ◌≤◌, eqb, ltb, ℤ, length, get_or}
+use Rattle.std.specs.Prelude.{
+  ◌≡◌,
+  Bool,
+  true,
+  false,
+  not,
+  ◌||◌,
+  cond,
+  List,
+  [],
+  ◌∷◌,
+  ◌++◌,
+  map,
+  ℕ,
+  suc,
+  ◌+◌,
+  ◌*◌,
+  ◌/◌,
+  ◌%◌,
+  ◌≤◌,
+  eqb,
+  ltb,
+  ℤ,
+  length,
+  get_or,
+}
 use Rattle.basics.specs.Lists.{concat_map, up_from}
 use Rattle.netlist.specs.declared.Kind.{Kind}
 use Rattle.netlist.specs.declared.Kind.TheVariants.{Simple, Parity, Mux}
@@ -134,7 +159,8 @@ cube_run own x a y b =
 
 -- that of entries i and j, by what was stored of them
 abbrev pub pair_of_pins : Form → ℕ → List ℕ → List ℕ → ℕ → Bool → ℕ → Bool → List Token
-pair_of_pins form own nodes lates i a j b = cube_run own (stored_at form nodes lates i) a (stored_at form nodes lates j) b
+pair_of_pins form own nodes lates i a j b =
+    cube_run own (stored_at form nodes lates i) a (stored_at form nodes lates j) b
 
 -- entry x at a and entry y at 0, then x at b and y at 1
 abbrev pub two_cubes : Form → ℕ → List ℕ → List ℕ → ℕ → Bool → Bool → ℕ → List Token
@@ -180,7 +206,8 @@ fixed_run RiseFall rail own = wants (false, own) ∷ wants (node_is (rail / 2) (
 -- a simple gate (rule F9): two literals a pin, then one clause over all pins
 abbrev pub simple_run : Form → Bool → Bool → ℕ → List ℕ → List ℕ → ℕ → List Token
 simple_run form c k node nodes lates count =
-    ((shares_run form Forced c k (node + 1) nodes lates count ++ shares_run form Driver c k (node + 1) nodes lates count)
+    ((shares_run form Forced c k (node + 1) nodes lates count
+    ++ shares_run form Driver c k (node + 1) nodes lates count)
     ++ (wants (node_is node (not k)) ∷ [])) ++ (ended ∷ [])
 
 -- a clause of three literals

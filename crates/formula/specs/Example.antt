@@ -24,6 +24,6 @@ pub runs :
     × (numbers_for (at_zero described_a) 3 ≡ printed)
     × (counts_for (at_zero described_a) 6 ≡ record { variables = 5; pairs = 0; clauses = 9; numbers = 27 })
 unfolding
-    described_a grow tops_of flat asked times_at pair_list clause_of gate_clauses late pair_clauses formula pair_place pairs_for
-    pair_variable formula_for numbers_for counts_for printed
+    described_a grow tops_of flat asked times_at pair_list clause_of gate_clauses late pair_clauses formula
+    pair_place pairs_for pair_variable formula_for numbers_for counts_for printed
 runs = (refl, refl, refl)

@@ -1,6 +1,24 @@
 -- What serves the code that writes the pairs' clauses: lateness by what is lent to it, as one code a rail, and what the
 -- code leans on.
-use Rattle.std.specs.Prelude.{◌≡◌, Bool, false, cond, ℕ, suc, ◌+◌, ◌-◌, ◌*◌, ◌/◌, ◌≤◌, ◌<◌, T, length, get_or, take, set}
+use Rattle.std.specs.Prelude.{
+  ◌≡◌,
+  Bool,
+  false,
+  cond,
+  ℕ,
+  suc,
+  ◌+◌,
+  ◌-◌,
+  ◌*◌,
+  ◌/◌,
+  ◌≤◌,
+  ◌<◌,
+  T,
+  length,
+  get_or,
+  take,
+  set,
+}
 use mathlib.Core.List.{List, [], ◌∷◌, ◌++◌, Memᴰ}
 use Rattle.basics.specs.Lists.{any, concat_map, up_from}
 use Rattle.netlist.specs.declared.Form.{Form}

@@ -1,5 +1,7 @@
 // The formula for a target time: the pairs in a lent table, the clauses in a lent slice of signed numbers.
 // Assumes nothing.
+#![tactic(auto)]
+
 ghost use Rattle.std.specs.Prelude.{◌≡◌, [], ◌∷◌, ◌+◌, ◌-◌, ◌*◌, ◌/◌, ◌≤◌, ◌<◌, length, get_or, set, take};
 ghost use Rattle.basics.specs.Lists.{concat_map, up_from};
 ghost use Rattle.netlist.specs.File.{netlist_at, pins_from, circuit_with};
@@ -81,7 +83,7 @@ use pairs::Listed;
 use refusal::{Checked, Refusal};
 
 // How many variables, pairs, clauses and numbers a formula has.
-#[derive(Drop)]
+#[derive(Clone, Copy)]
 pub struct Counts {
     pub variables: usize,
     pub pairs: usize,
@@ -90,7 +92,7 @@ pub struct Counts {
 }
 
 // The formula's counts, or a refusal.
-#[derive(Drop)]
+#[derive(Clone, Copy)]
 pub enum Built {
     Formula(Counts),
     Refused(Refusal),
@@ -98,21 +100,21 @@ pub enum Built {
 
 // How far the formula is written: the place of the next number, whether or not there is room for it, and the clauses
 // that are ended.
-#[derive(Drop)]
+#[derive(Clone, Copy)]
 pub struct Emitted {
     pub numbers: usize,
     pub clauses: usize,
 }
 
 // A node and a time.
-#[derive(Drop)]
+#[derive(Clone, Copy)]
 pub struct Moment {
     pub node: usize,
     pub time: usize,
 }
 
 // A pair of the table: a rail and a time.
-#[derive(Drop)]
+#[derive(Clone, Copy)]
 pub struct Pair {
     pub rail: usize,
     pub time: usize,
@@ -120,7 +122,7 @@ pub struct Pair {
 
 // What is known of a node that is asked for: its number, and that it is late, as a code for each of its rails. The
 // second code is 0, for no literal, where a node has one rail.
-#[derive(Drop)]
+#[derive(Clone, Copy)]
 pub struct Asked {
     pub node: usize,
     pub late: usize,
@@ -129,7 +131,7 @@ pub struct Asked {
 
 // Who asks whether a node is late: the pins of gates, each for its driver at a time less its own delay, or less the one
 // that is lent for gates that end at 0; or the outputs.
-#[derive(Drop)]
+#[derive(Clone, Copy)]
 pub enum Side {
     Pins,
     Falls,
@@ -140,7 +142,7 @@ pub enum Side {
 // not at c or the gate is k; the literal that it is at c; the clause that the pair is not, or the driver is late, or
 // not at c. The variants hold no c and k, which are passed beside: so the compiler makes a loop of its own for each
 // share.
-#[derive(Drop)]
+#[derive(Clone, Copy)]
 pub enum Share {
     Forced,
     Driver,

@@ -14,8 +14,8 @@ use native.Mathlib.Omega.{arith}
 use native.Mathlib.Decide.{dec_lt, ℕ_discrete}
 use lib.ListN.{length, get_or}
 use Rattle.netlist.specs.declared.Shape.{Shape}
-use Rattle.netlist.specs.Netlist.{Slopes, alike, apart}
-use Rattle.netlist.specs.File.{netlist_at, output_at, delay_at}
+use Rattle.netlist.specs.Netlist.{Slopes}
+use Rattle.netlist.specs.File.{netlist_at, output_at}
 use Rattle.netlist.proofs.Entries.{output-has, output-only}
 use Rattle.pairs.specs.Table.{
   pair_at,

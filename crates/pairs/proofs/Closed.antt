@@ -3,7 +3,7 @@
 -- listed-for, placed-for, place-for, pair-for, time-for, output-for, driver-for. Assumes nothing.
 use mathlib.Core.Path.{◌≡◌, refl, sym, ap₂, subst}
 use mathlib.Core.Bool.{Bool, true, false, ◌&&◌, cond}
-use mathlib.Core.List.{List, ◌∷◌, Memᴰ}
+use mathlib.Core.List.{List, [], ◌∷◌, Memᴰ}
 use Prim.Native.Nat.{ℕ, suc, ◌+◌, ◌-◌, ◌≤◌, ◌<◌}
 use native.Mathlib.Omega.{arith}
 use lib.Dec.{T, eqb, eqb→eq, eqb_refl}
@@ -63,6 +63,7 @@ pair_same f t x u =
 -- a member's place is within the list
 pub place-below : (f t : ℕ) (l : List (ℕ × ℕ)) → Memᴰ (f, t) l → pair_place f t l < length l
 unfolding pair_place
+place-below f t [] none = elim none [ ]
 place-below f t (x ∷ l) (Memᴰ.head e) = go (eqb x.0 f && eqb x.1 t) (same-pair f t x e)
   where
     go : (b : Bool) → T b → cond b 0 (suc (pair_place f t l)) < length (x ∷ l)
@@ -77,6 +78,7 @@ place-below f t (x ∷ l) (Memᴰ.tail m) = go (eqb x.0 f && eqb x.1 t) (place-b
 -- and the member stands there
 pub place_at : (f t : ℕ) (l : List (ℕ × ℕ)) (d : ℕ × ℕ) → Memᴰ (f, t) l → get_or l (pair_place f t l) d ≡ (f, t)
 unfolding pair_place
+place_at f t [] d none = elim none [ ]
 place_at f t (x ∷ l) d (Memᴰ.head e) = go (eqb x.0 f && eqb x.1 t) (same-pair f t x e)
   where
     go : (b : Bool) → T b → get_or (x ∷ l) (cond b 0 (suc (pair_place f t l))) d ≡ (f, t)

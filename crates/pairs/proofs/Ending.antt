@@ -53,7 +53,8 @@ module _ {l : List (ℕ × ℕ)} {first last f : ℕ} {ends : List ℕ} (w : End
       more : (number : ℕ) → f + 1 ≤ first + number → EndsAt l (first + number) ends number →
           EndsAt ((f, t) ∷ l) (first + number) ends number
       more number a e =
-          let q : suc (length l) - get_or ends number 0 ≡ suc (length l - get_or ends number 0) = omega (arith, e.few) in
+          let q : suc (length l) - get_or ends number 0
+          ≡ suc (length l - get_or ends number 0) = omega (arith, e.few) in
           record { few = omega (arith, e.few); from = rw q (precede-more (f, t) (omega arith) e.from) }
 
   -- all of rail f's are found, and the rail below follows

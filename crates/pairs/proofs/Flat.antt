@@ -29,6 +29,7 @@ module _ {A : Type 0} (d : A) where
   mem-at (x ∷ l) (suc k) h = Memᴰ.tail (mem-at l k (omega arith))
 
   pub at_mem : (l : List A) (x : A) → Memᴰ x l → (k : ℕ) × (k < length l) × (get_or l k d ≡ x)
+  at_mem [] x none = elim none [ ]
   at_mem (y ∷ l) x (Memᴰ.head e) = (0, omega arith, sym e)
   at_mem (y ∷ l) x (Memᴰ.tail m) = let w = at_mem l x m in (suc w.0, omega (arith, w.1), w.2)
 

@@ -3,7 +3,7 @@
 -- rails-under, rail-sum, rail-few, rail-up, rail-last; asking-has, asking-only; rail-number, rail-pin; rail-has,
 -- rail-only, rail-total; outputs-has, outputs-only; rail-below, down-for. Assumes nothing.
 use mathlib.Core.Path.{◌≡◌, refl, sym, ap, ◌∙◌, subst}
-use mathlib.Core.Bool.{Bool, true, false}
+use mathlib.Core.Bool.{true, false}
 use mathlib.Core.List.Memᴰ
 use mathlib.Core.List.{List, [], ◌∷◌, map, Memᴰ}
 use Prim.Native.Nat.{ℕ, suc, ◌+◌, ◌*◌, ◌/◌, ◌≤◌, ◌<◌}
@@ -11,7 +11,7 @@ use native.Mathlib.Omega.{arith}
 use native.Mathlib.Decide.{ℕ_discrete}
 use lib.Dec.{T}
 use lib.ListN.{length}
-use Rattle.basics.specs.Lists.{concat_map, numbered}
+use Rattle.basics.specs.Lists.{numbered}
 use Rattle.basics.proofs.Lists.{mem-map, map-mem, concat_map-mem, mem-concat_map, all-at}
 use Rattle.netlist.specs.Netlist.{
   Cell,
@@ -28,17 +28,7 @@ use Rattle.netlist.specs.Netlist.{
   pins_for,
 }
 use Rattle.netlist.proofs.Valid.{valid-gates, fits_below}
-use Rattle.pairs.specs.Rails.{
-  rails_of,
-  rail_count,
-  node_of,
-  Rail,
-  rails_at,
-  asking,
-  rails_cells,
-  rail_cells,
-  rail_outputs,
-}
+use Rattle.pairs.specs.Rails.{rails_of, rail_count, node_of, Rail, rails_at, asking, rail_cells, rail_outputs}
 use Rattle.pairs.proofs.Least.{Down}
 
 -- ---- the rails of a node
@@ -158,6 +148,7 @@ pub rail-has : (slopes : Slopes) (k : ℕ) (gates : List Cell) (x : ℕ × Cell)
     Memᴰ (rail_cell slopes r) (numbered (rail_count slopes k) (rail_cells slopes gates))
 rail-has alike k gates x m r i =
     subst (λ (y : Rail). Memᴰ {A = ℕ × Cell} (rail_cell alike y) (numbered k gates)) (sym (one i)) m
+rail-has (apart falls) k [] x m r i = elim m [ ]
 rail-has (apart falls) k (g ∷ gs) x (Memᴰ.head e) r i =
     go (subst (λ (y : ℕ × Cell). Memᴰ r (rails_at (apart falls) y)) e i)
   where

@@ -32,6 +32,7 @@ before-transitive x y z (inr h) (inr k) = inr (omega arith)
 
 module _ {A : Type 0} (Less : A → A → Type 0) where
   pub above_at : (a : A) (l : List A) → Above Less a l → (x : A) → Memᴰ x l → Less a x
+  above_at a [] h x none = elim none [ ]
   above_at a (y ∷ l) h x (Memᴰ.head e) = subst (λ (z : A). Less a z) (sym e) h.0
   above_at a (y ∷ l) h x (Memᴰ.tail m) = above_at a l h.1 x m
 

@@ -36,10 +36,10 @@ rising-up : (l : List (ℕ × ℕ)) → Rising Before l → ((x : ℕ × ℕ) �
 rising-up [] r s j k h w = absurd (omega arith)
 rising-up (x ∷ l) r s j zero h w = absurd (omega arith)
 rising-up (x ∷ l) r s zero (suc k) h w =
-    key-of x (pair_at l k) (s x (mathlib.Core.List.Memᴰ.head refl))
+    key-of x (pair_at l k) (s x (Memᴰ.head refl))
     (above_at Before x l r.0 (pair_at l k) (mem-at (0, 0) l k (omega arith)))
 rising-up (x ∷ l) r s (suc j) (suc k) h w =
-    rising-up l r.1 (λ y m. s y (mathlib.Core.List.Memᴰ.tail m)) j k (omega arith) (omega arith)
+    rising-up l r.1 (λ y m. s y (Memᴰ.tail m)) j k (omega arith) (omega arith)
 
 -- a rising list whose times are small has rising keys
 pub rising-sorted : (l : List (ℕ × ℕ)) → Rising Before l →

@@ -9,18 +9,7 @@ use native.Mathlib.Decide.{dec_lt}
 use lib.ListN.{length, get_or}
 use borrow.Author.Tests.{lt-ltb, le-ltb}
 use Rattle.pairs.specs.declared.Span.{Span}
-use Rattle.pairs.specs.Table.{
-  pair_at,
-  key_of,
-  Sorted,
-  Precede,
-  Marked,
-  Adds,
-  Spans,
-  pin_span,
-  Within,
-  PinAsks,
-}
+use Rattle.pairs.specs.Table.{pair_at, Sorted, Precede, Marked, Adds, Spans, pin_span, Within, PinAsks}
 use Rattle.pairs.proofs.Flat.{at_mem}
 use Rattle.pairs.proofs.Search.{sorted-le}
 use Rattle.pairs.proofs.Asking.{pin-here}

@@ -19,13 +19,12 @@ use Rattle.netlist.specs.Netlist.{
   Slopes,
   alike,
   apart,
-  nodes,
   node_count,
   delayed,
   fall_of,
   pins_for,
 }
-use Rattle.netlist.specs.File.{netlist_at, cell_at, pin_at, first_at, count_at, driver_at, delay_at, circuit_with}
+use Rattle.netlist.specs.File.{netlist_at, cell_at, pin_at, first_at, count_at, driver_at, circuit_with}
 use Rattle.netlist.specs.Holds.{Given, Sloped}
 use Rattle.settle.specs.Steps.{latest}
 use Rattle.netlist.proofs.Entries.{
@@ -39,21 +38,15 @@ use Rattle.netlist.proofs.Entries.{
   node-only,
 }
 use Rattle.netlist.proofs.Valid.{valid-outputs}
-use Rattle.pairs.specs.Rails.{rails_of, rail_count, node_of, Rail, rails_at, asking, rail_cells, rail_outputs}
+use Rattle.pairs.specs.Rails.{rails_of, rail_count, node_of, Rail, rails_at, rail_cells, rail_outputs}
 use Rattle.pairs.specs.Pairs.{is_pair, Asked, output, driver, rail_top}
-use Rattle.pairs.specs.Table.{PinAsks, LinkAsks, askers, AsksAll, by_output, by_pin}
+use Rattle.pairs.specs.Table.{askers, AsksAll, by_output, by_pin}
 use Rattle.pairs.proofs.Least.{Down, pair-facts, member-is-pair, asked-early, asked-below}
 use Rattle.pairs.proofs.Rails.{
   one,
-  driven,
-  rail_cell,
   rail-own,
   rail-node,
-  node-from,
   below-node,
-  rail-number,
-  rail-below,
-  rails-under,
   asking-has,
   asking-only,
   rail-has,
@@ -84,7 +77,8 @@ AskedAt file shape arrivals slopes target f t =
 abbrev pub IsPairAt : List ℕ → Shape → List ℕ → Slopes → ℕ → ℕ → Type 0
 IsPairAt file shape arrivals slopes f t =
     T
-    (is_pair (rail_count slopes (netlist_at file shape).inputs) (rail_top (circuit_with file shape arrivals slopes)) f t)
+    (is_pair (rail_count slopes (netlist_at file shape).inputs) (rail_top (circuit_with file shape arrivals slopes)) f
+    t)
 
 -- ---- a gate's pins, by its rails
 
@@ -106,11 +100,11 @@ module _ (file : List ℕ) (shape : Shape) (i : ℕ) where
         v.1,
         v.2,
         ap (λ (x : Pin). x.driver) v.3 ∙ pin-driver file shape v.0,
-        mathlib.Core.List.Memᴰ.head
+        Memᴰ.head
             (ap₂ (λ (a b : ℕ). (a, b)) (ap (λ (y : Rail). y.number) e)
             (ap (λ (x : Pin). x.delay) v.3 ∙ pin-delay file shape v.0)),
       )
-  rail-asker (apart falls) r (mathlib.Core.List.Memᴰ.head e) p j =
+  rail-asker (apart falls) r (Memᴰ.head e) p j =
       let w =
       map-mem (delayed (fall_of falls)) (cell_at file shape i).pins p
       (subst (λ (y : Rail). Memᴰ p y.pins) e j)
@@ -120,19 +114,19 @@ module _ (file : List ℕ) (shape : Shape) (i : ℕ) where
         v.1,
         v.2,
         ap (λ (x : Pin). x.driver) w.2 ∙ ap (λ (x : Pin). x.driver) v.3 ∙ pin-driver file shape v.0,
-        mathlib.Core.List.Memᴰ.head
+        Memᴰ.head
             (ap₂ (λ (a b : ℕ). (a, b)) (ap (λ (y : Rail). y.number) e)
             (ap (λ (x : Pin). x.delay) w.2 ∙ ap (fall_of falls) v.3 ∙ fall-at falls v.0)),
       )
-  rail-asker (apart falls) r (mathlib.Core.List.Memᴰ.tail m) p j =
+  rail-asker (apart falls) r (Memᴰ.tail m) p j =
       let e = one m in
       let v = pin-only file shape i p (subst (λ (y : Rail). Memᴰ p y.pins) e j) in (
         v.0,
         v.1,
         v.2,
         ap (λ (x : Pin). x.driver) v.3 ∙ pin-driver file shape v.0,
-        mathlib.Core.List.Memᴰ.tail
-            (mathlib.Core.List.Memᴰ.head
+        Memᴰ.tail
+            (Memᴰ.head
             (ap₂ (λ (a b : ℕ). (a, b)) (ap (λ (y : Rail). y.number) e)
             (ap (λ (x : Pin). x.delay) v.3 ∙ pin-delay file shape v.0))),
       )
@@ -151,13 +145,13 @@ module _ (file : List ℕ) (shape : Shape) (i : ℕ) where
       kind = (cell_at file shape i).kind;
       pins = (cell_at file shape i).pins;
     },
-    mathlib.Core.List.Memᴰ.head refl,
+    Memᴰ.head refl,
     pin_at file shape pin,
     pin-has file shape i pin a b,
     pin-driver file shape pin,
     one m ∙ ap (λ (d : ℕ). (shape.inputs + i, d)) (sym (pin-delay file shape pin)),
   )
-  asker-rail (apart falls) pin a b y (mathlib.Core.List.Memᴰ.head e) = (
+  asker-rail (apart falls) pin a b y (Memᴰ.head e) = (
     record {
       number = (shape.inputs + i) * 2;
       node = shape.inputs + i;
@@ -165,13 +159,14 @@ module _ (file : List ℕ) (shape : Shape) (i : ℕ) where
       kind = (cell_at file shape i).kind;
       pins = pins_for (apart falls) false (cell_at file shape i).pins;
     },
-    mathlib.Core.List.Memᴰ.head refl,
+    Memᴰ.head refl,
     delayed (fall_of falls) (pin_at file shape pin),
-    mem-map (delayed (fall_of falls)) (cell_at file shape i).pins (pin_at file shape pin) (pin-has file shape i pin a b),
+    mem-map (delayed (fall_of falls)) (cell_at file shape i).pins (pin_at file shape pin)
+        (pin-has file shape i pin a b),
     pin-driver file shape pin,
     e ∙ ap (λ (d : ℕ). ((shape.inputs + i) * 2, d)) (sym (fall-at falls pin)),
   )
-  asker-rail (apart falls) pin a b y (mathlib.Core.List.Memᴰ.tail m) = (
+  asker-rail (apart falls) pin a b y (Memᴰ.tail m) = (
     record {
       number = (shape.inputs + i) * 2 + 1;
       node = shape.inputs + i;
@@ -179,7 +174,7 @@ module _ (file : List ℕ) (shape : Shape) (i : ℕ) where
       kind = (cell_at file shape i).kind;
       pins = pins_for (apart falls) true (cell_at file shape i).pins;
     },
-    mathlib.Core.List.Memᴰ.tail (mathlib.Core.List.Memᴰ.head refl),
+    Memᴰ.tail (Memᴰ.head refl),
     pin_at file shape pin,
     pin-has file shape i pin a b,
     pin-driver file shape pin,

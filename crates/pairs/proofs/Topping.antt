@@ -9,21 +9,7 @@ use Prim.Native.Nat.{ℕ, suc, ◌+◌, ◌-◌, ◌<◌, ◌≤◌, max}
 use native.Mathlib.Omega.{arith}
 use native.Mathlib.Numerals.{add-one}
 use native.Mathlib.Decide.{ℕ_discrete}
-use lib.ListN.{
-  length,
-  get_or,
-  set,
-  take,
-  drop,
-  replicate,
-  length-set,
-  length-take,
-  length-drop,
-  length-append,
-  length-replicate,
-  get_or-replicate,
-  get_or-append,
-}
+use lib.ListN.{length, get_or, set, take, drop, replicate, length-set, length-take, length-replicate, get_or-append}
 use lib.Seq.{length-take-le, take_at, take-append-le, get_or-take, get_or-set_same, get_or-set_other, ext_get_or}
 use Rattle.lent.specs.Copied.{Copied}
 use Rattle.lent.proofs.Filling.{copied-length}
@@ -72,7 +58,8 @@ slow-pin file shape (apart falls) pin = refl
 pub record Readying (file : List ℕ) (shape : Shape) (slopes : Slopes) (number : ℕ) (tops : List ℕ) (latest k : ℕ) :
     Type 0 where
   pub left :
-      max latest (last (ready_at (λ node. get_or tops node 0)) (slowest slopes (drop k (cell_at file shape number).pins)))
+      max latest (last (ready_at (λ node. get_or tops node 0))
+      (slowest slopes (drop k (cell_at file shape number).pins)))
       ≡ last (ready_at (λ node. get_or tops node 0)) (slowest slopes (cell_at file shape number).pins)
 
 pub readying-starts : (file : List ℕ) (shape : Shape) (slopes : Slopes) (number : ℕ) (tops : List ℕ) →
@@ -110,7 +97,8 @@ pub readying-ends : {file : List ℕ} {shape : Shape} {slopes : Slopes} {number 
     latest ≡ last (ready_at (λ node. get_or tops node 0)) (slowest slopes (cell_at file shape number).pins)
 readying-ends {file} {shape} {slopes} {number} {tops} {latest} {k} g own b h =
     let fields = gate-fields file shape number g own in
-    let s : last (ready_at (λ node. get_or tops node 0)) (slowest slopes (drop k (cell_at file shape number).pins)) ≡ 0 =
+    let s : last (ready_at (λ node. get_or tops node 0)) (slowest slopes (drop k (cell_at file shape number).pins))
+    ≡ 0 =
     ap (λ (l : List Pin). last (ready_at (λ node. get_or tops node 0)) (slowest slopes l))
     (pins-done file shape number k (omega (arith, fields.1)))
     ∙ last_none slopes (λ node. get_or tops node 0)

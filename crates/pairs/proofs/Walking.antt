@@ -9,7 +9,7 @@ use mathlib.Core.List.{
   ◌∷◌,
   Memᴰ,
 }
-use Prim.Native.Nat.{ℕ, ◌+◌, ◌<◌}
+use Prim.Native.Nat.{ℕ, ◌<◌}
 use native.Mathlib.Omega.{arith}
 use Rattle.netlist.specs.declared.Shape.{Shape}
 use Rattle.netlist.specs.Netlist.{Slopes}

@@ -3,7 +3,7 @@
 -- held-unique; lists-for. Assumes nothing.
 use mathlib.Core.Path.{◌≡◌, refl, sym, ap, ap₂, ◌∙◌}
 use mathlib.Core.List.{List, ◌++◌}
-use Prim.Native.Nat.{ℕ, ◌+◌, ◌*◌, ◌-◌, ◌/◌, ◌<◌, ◌≤◌, min}
+use Prim.Native.Nat.{ℕ, ◌+◌, ◌*◌, ◌-◌, ◌/◌, ◌<◌, ◌≤◌}
 use native.Mathlib.Omega.{arith}
 use lib.ListN.{length, take, drop, replicate}
 use lib.Seq.{take_at, drop-append-le, length-take-le, length_front}
@@ -12,7 +12,6 @@ use Rattle.netlist.specs.Netlist.{Slopes, alike, apart, node_count}
 use Rattle.netlist.specs.File.{netlist_at, circuit_with}
 use Rattle.netlist.specs.Holds.{Given, Sloped}
 use Rattle.netlist.proofs.Entries.{node-count}
-use Rattle.settle.specs.Steps.{latest}
 use Rattle.pairs.specs.Rails.{rail_count, node_of, rail_cells, rail_outputs}
 use Rattle.pairs.proofs.Rails.{rail-few}
 use Rattle.pairs.proofs.Topping.{tops-late}

@@ -1,7 +1,7 @@
 -- Rails: what a pair speaks of beside its time. A node has one rail, which is the node itself; where the delays of rise
 -- and fall stand apart it has two, one for each final value, 0 first. A rail's number is the node's, or twice that and
 -- the value. Interface: all of it.
-use Rattle.std.specs.Prelude.{Bool, true, false, List, [], ◌∷◌, map, ℕ, ◌+◌, ◌*◌, ◌/◌, ◌%◌}
+use Rattle.std.specs.Prelude.{Bool, true, false, List, [], ◌∷◌, map, ℕ, ◌+◌, ◌*◌, ◌/◌}
 use Rattle.basics.specs.Lists.{concat_map}
 use Rattle.netlist.specs.declared.Kind.{Kind}
 use Rattle.netlist.specs.Netlist.{Cell, Pin, Slopes, alike, apart, pins_for}

@@ -1,7 +1,27 @@
 -- What the functions on the lent table say: its numbers as pairs, what a search in it finds, times as marks, what asks
 -- for a pair where the pairs after it are known, and the pins of each node in chains. Interface: none of it; it serves
 -- the functions under `table` and `place`.
-use Rattle.std.specs.Prelude.{◌≡◌, cond, ◌⊎◌, ℕ, suc, ◌+◌, ◌-◌, ◌*◌, ◌/◌, ◌%◌, ◌^◌, ◌≤◌, ◌<◌, min, max, ltb, length, get_or, drop}
+use Rattle.std.specs.Prelude.{
+  ◌≡◌,
+  cond,
+  ◌⊎◌,
+  ℕ,
+  suc,
+  ◌+◌,
+  ◌-◌,
+  ◌*◌,
+  ◌/◌,
+  ◌%◌,
+  ◌^◌,
+  ◌≤◌,
+  ◌<◌,
+  min,
+  max,
+  ltb,
+  length,
+  get_or,
+  drop,
+}
 use mathlib.Core.List.{List, [], ◌∷◌, Memᴰ}
 use Rattle.netlist.specs.declared.Shape.{Shape}
 use Rattle.netlist.specs.Netlist.{Slopes, alike, apart}

@@ -2,7 +2,27 @@
 // where the delays of rise and fall stand apart. The table is filled from its end, one rail after the other from the
 // last: what is asked of a rail is marked, and read from the highest mark down, so that nothing is inserted or sorted.
 // Assumes nothing.
-ghost use Rattle.std.specs.Prelude.{◌≡◌, List, ◌∷◌, ◌++◌, ℕ, ◌+◌, ◌-◌, ◌*◌, ◌/◌, ◌≤◌, ◌<◌, max, min, length, get_or, take, drop};
+#![tactic(auto)]
+
+ghost use Rattle.std.specs.Prelude.{
+  ◌≡◌,
+  List,
+  ◌∷◌,
+  ◌++◌,
+  ℕ,
+  ◌+◌,
+  ◌-◌,
+  ◌*◌,
+  ◌/◌,
+  ◌≤◌,
+  ◌<◌,
+  max,
+  min,
+  length,
+  get_or,
+  take,
+  drop,
+};
 ghost use Rattle.netlist.specs.Netlist.{apart, slopes_by, slowest};
 ghost use Rattle.netlist.specs.File.{cell_at};
 ghost use Rattle.netlist.specs.Holds.{Tables, Holds, Given, Sloped};
@@ -45,21 +65,21 @@ ghost use Rattle.pairs.specs.Promise.{Topped, Tops, pairs_at, Held, Spread, List
 use netlist::{Form, Shape};
 
 // Where the pairs begin in a table that is filled from its end, or that they are more than it holds.
-#[derive(Drop)]
+#[derive(Clone, Copy)]
 enum Filled {
     From(usize),
     Full,
 }
 
 // The words in which marks stand: from `low` to before `high`.
-#[derive(Drop)]
+#[derive(Clone, Copy)]
 struct Span {
     low: usize,
     high: usize,
 }
 
 // How many pairs there are, or that they are too many.
-#[derive(Drop)]
+#[derive(Clone, Copy)]
 pub enum Listed {
     Count(usize),
     TooMany,
