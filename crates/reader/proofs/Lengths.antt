@@ -128,12 +128,12 @@ module _ {slice part : Bor (List ℤ)} {at length-there : ℕ} (e : length-there
 
   -- otherwise it is the clause
   pub part-is : (length-there ≡ 0 → ⊥) → part.now ≡ take (at + length-there - at) (drop at slice.now) →
-      part.ptr ≡ point_at slice.ptr at → PartAt slice at part
+      part.ref_ptr ≡ point_at slice.ref_ptr at → PartAt slice at part
   unfolding clause_at
   part-is n holds lies =
       let here : start_at slice.now at ≡ at = start-here slice.now at (λ q. n (e ∙ q)) in
       let long : at + length-there - at ≡ length_at slice.now at = omega arith in
       record {
         holds = holds ∙ ap₂ (λ (n m : ℕ). take n (drop m slice.now)) long (sym here);
-        lies = lies ∙ ap (point_at slice.ptr) (sym here);
+        lies = lies ∙ ap (point_at slice.ref_ptr) (sym here);
       }

@@ -2,4 +2,3 @@
 pub mod Lengths
 pub mod Agree
 pub mod Unique
-pub mod Apart

@@ -1,7 +1,7 @@
 -- The reader (rules L5 and L6): a formula's slice with a place in it, from which it hands out clause after clause; from
 -- a place without a later 0, or behind the end, the stretch of length 0 at the slice's end, and a step doesn't move it.
 -- Interface: PartAt, clause_at, next_at, place_after; the others serve them.
-use Rattle.std.specs.Prelude.{◌≡◌, cond, List, [], ◌∷◌, ℕ, zero, suc, ◌+◌, ◌*◌, eqb, ℤ, pos, negsuc, length, take, drop}
+use Rattle.std.specs.Prelude.{◌≡◌, cond, List, [], ◌∷◌, ℕ, zero, suc, ◌+◌, eqb, ℤ, pos, negsuc, length, take, drop}
 use Rattle.std.specs.Borrow.{Bor}
 use Rattle.refute.specs.Parts.{point_at}
 

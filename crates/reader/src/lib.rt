@@ -1,11 +1,13 @@
 // A reader of a formula: a slice with a place in it, from which it hands out clause after clause (rules L5 and L6). Its
 // methods are thin; the work is done by functions on a plain slice and a place. Assumes nothing.
+#![tactic(auto)]
+
 ghost use Rattle.std.specs.Prelude.{◌≡◌, get_or, []};
 ghost use Rattle.refute.specs.Parts.{parts};
 ghost use Rattle.reader.specs.Reading.{length_at, next_at, PartAt};
 
 // The formula, and the place where the next clause starts.
-#[derive(Drop)]
+#[derive(Clone, Copy)]
 pub struct Reader<'a> {
     pub formula: &'a [i32],
     pub at: usize,

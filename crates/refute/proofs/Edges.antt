@@ -11,7 +11,8 @@ use Rattle.refute.specs.Rows.{first_beyond, ended, formula_rows, refutation_form
 use Rattle.refute.proofs.Examples.{answered, computed-hold}
 
 computed : map answered edges ≡ map (λ (c : Case). c.answer) edges
-unfolding edges formulas refutations lasts steps clauses_from first_beyond ended formula_rows refutation_form first_empty
+unfolding edges formulas refutations lasts steps clauses_from first_beyond ended formula_rows refutation_form
+    first_empty
     last_row is_true is_free assign say pass refutes assert follows verdict
 computed = refl
 

@@ -98,7 +98,8 @@ denied marks tidy l n f =
 
 -- ---- what an assignment changes
 
-set_cases : (a : List ℕ) (i t k : ℕ) → (get_or (set a i t) k 0 ≡ get_or a k 0) ⊎ ((k ≡ i) × (get_or (set a i t) k 0 ≡ t))
+set_cases : (a : List ℕ) (i t k : ℕ) →
+    (get_or (set a i t) k 0 ≡ get_or a k 0) ⊎ ((k ≡ i) × (get_or (set a i t) k 0 ≡ t))
 set_cases [] i t k = inl refl
 set_cases (x ∷ a) zero t zero = inr (refl, refl)
 set_cases (x ∷ a) zero t (suc k) = inl refl

@@ -138,7 +138,8 @@ pub record ReadThrough (list : List ℤ) (before : List ℕ) (moved₀ : Bool) (
   pub read : List Literal
   pub spoken : Spoken marks scan read
   pub left : (after : List (List Literal)) →
-      pass marks moved (read ∷ (clauses_of (drop (j + 1) list) ++ after)) ≡ pass before moved₀ (clauses_of list ++ after)
+      pass marks moved (read ∷ (clauses_of (drop (j + 1) list) ++ after))
+      ≡ pass before moved₀ (clauses_of list ++ after)
 
 module _ {list : List ℤ} {before : List ℕ} {moved₀ : Bool} {marks : List ℕ} {moved : Bool} {i : ℕ}
     (v : Visiting list before moved₀ marks moved i) {scan : Scan} {j : ℕ} (b : Begun list marks i scan j) where

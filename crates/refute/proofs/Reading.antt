@@ -115,7 +115,8 @@ pub asserting-more : {clause : List ℤ} {before marks : List ℕ} {i : ℕ} (x 
 unfolding is_true assign
 asserting-more {clause} {before} {marks} {i} x b h e n =
     let k = coded (get_or clause i (pos 0)) x e in
-    let f : get_or marks (literal_of (get_or clause i (pos 0))).1 0 ≡ wanted (literal_of (get_or clause i (pos 0))) → ⊥ =
+    let f : get_or marks (literal_of (get_or clause i (pos 0))).1 0 ≡ wanted (literal_of (get_or clause i (pos 0))) →
+    ⊥ =
     λ t. n (ap (λ (v : ℕ). get_or marks v 0) k.variable ∙ t ∙ sym k.mark) in
     record {
       upto = omega arith;

@@ -1,6 +1,29 @@
 -- The clauses of two lists by number, each with its 0 as a part of the list that holds it. Interface: parts,
 -- ClausePart.
-use Rattle.std.specs.Prelude.{◌≡◌, true, false, cond, List, [], ◌∷◌, ◌++◌, ℕ, zero, suc, ◌+◌, ◌-◌, ◌*◌, ltb, ℤ, pos, negsuc, length, get_or, take, drop}
+use Rattle.std.specs.Prelude.{
+  ◌≡◌,
+  true,
+  false,
+  cond,
+  List,
+  [],
+  ◌∷◌,
+  ◌++◌,
+  ℕ,
+  zero,
+  suc,
+  ◌+◌,
+  ◌-◌,
+  ◌*◌,
+  ltb,
+  ℤ,
+  pos,
+  negsuc,
+  length,
+  get_or,
+  take,
+  drop,
+}
 use Rattle.std.specs.Borrow.{Bor}
 use Rattle.basics.specs.Lists.{concat_map}
 use Rattle.refute.specs.declared.Span.{Span}

@@ -1,7 +1,25 @@
 -- Unit propagation computed, as the code does it: pass after pass over the stored clauses in list order; what a pass
 -- makes true counts at once, and a false clause ends it. One mark a variable: 0 free, 1 true, 2 false. proofs/Agree has
 -- that this is what Propagation says. Interface: follows, verdict.
-use Rattle.std.specs.Prelude.{Bool, true, false, ◌&&◌, cond, List, [], ◌∷◌, ◌++◌, ℕ, zero, suc, eqb, length, get_or, set, replicate}
+use Rattle.std.specs.Prelude.{
+  Bool,
+  true,
+  false,
+  ◌&&◌,
+  cond,
+  List,
+  [],
+  ◌∷◌,
+  ◌++◌,
+  ℕ,
+  zero,
+  suc,
+  eqb,
+  length,
+  get_or,
+  set,
+  replicate,
+}
 use Rattle.std.specs.Bool.{beq}
 use Rattle.basics.specs.Lists.{any, all, keep}
 use Rattle.clauses.specs.Clauses.{Literal, opposite}

@@ -1,6 +1,31 @@
 -- What the code's small functions make of numbers and marks: the literal of a number, the two lists read as one, and
 -- what a clause's literals say so far. It serves the contracts inside this crate; no promise to a caller speaks of it.
-use Rattle.std.specs.Prelude.{Bool, true, false, cond, List, ◌++◌, map, ℕ, zero, suc, ◌+◌, ◌/◌, ◌%◌, ◌≤◌, ◌<◌, T, eqb, ℤ, pos, negsuc, length, get_or, replicate, ◌≡◌}
+use Rattle.std.specs.Prelude.{
+  Bool,
+  true,
+  false,
+  cond,
+  List,
+  ◌++◌,
+  map,
+  ℕ,
+  zero,
+  suc,
+  ◌+◌,
+  ◌/◌,
+  ◌%◌,
+  ◌≤◌,
+  ◌<◌,
+  T,
+  eqb,
+  ℤ,
+  pos,
+  negsuc,
+  length,
+  get_or,
+  replicate,
+  ◌≡◌,
+}
 use Rattle.clauses.specs.Clauses.{Literal, clauses_of}
 use Rattle.clauses.specs.Codes.{code_of}
 use Rattle.refute.specs.Passes.{Asserted, contradict, marked, follows, verdict}

@@ -1,6 +1,28 @@
 -- The rows of the table of refusals (rule T1) that a check of a refutation meets, as functions: FORMULA, REFUTATION,
 -- LAST and ROOM, in the order 11, 12, 13, 9. (STEP, the last, is in Promise.) Interface: check_rows, refutation_rows.
-use Rattle.std.specs.Prelude.{Bool, not, ◌||◌, cond, List, [], ◌∷◌, ◌++◌, ℕ, suc, ◌-◌, ◌≤◌, T, leb, ltb, eqb, ℤ, pos, negsuc, length, get_or}
+use Rattle.std.specs.Prelude.{
+  Bool,
+  not,
+  ◌||◌,
+  cond,
+  List,
+  [],
+  ◌∷◌,
+  ◌++◌,
+  ℕ,
+  suc,
+  ◌-◌,
+  ◌≤◌,
+  T,
+  leb,
+  ltb,
+  eqb,
+  ℤ,
+  pos,
+  negsuc,
+  length,
+  get_or,
+}
 use Rattle.basics.specs.Lists.{all}
 use Rattle.refusal.specs.declared.Refusal.TheVariants.{Formula, Refutation, Last}
 use Rattle.refusal.specs.Rows.{Row, room_row}

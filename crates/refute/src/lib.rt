@@ -1,4 +1,6 @@
 // The refutation: each clause in turn follows by unit propagation, or its number is named. Assumes nothing.
+#![tactic(auto)]
+
 ghost use Rattle.std.specs.Prelude.{◌≡◌, [], ◌∷◌, suc, ◌/◌, ◌≤◌, ◌<◌, pos, length, get_or, replicate};
 ghost use Rattle.refusal.specs.Rows.{checked, room_row};
 ghost use Rattle.clauses.specs.Clauses.{clauses_of};
@@ -14,7 +16,7 @@ ghost use Rattle.refute.specs.Rows.{refutation_rows, WellFormed};
 use refusal::{Checked, Refusal};
 
 // Where a clause stands: in which of the two lists, from where, and to where.
-#[derive(Drop)]
+#[derive(Clone, Copy)]
 pub struct Span {
     pub second: bool,
     pub start: usize,
@@ -22,7 +24,7 @@ pub struct Span {
 }
 
 // What a search for a clause by its number finds in one list: its place, or how many the number is beyond the clauses.
-#[derive(Drop)]
+#[derive(Clone, Copy)]
 pub enum Found {
     At(usize, usize),
     Beyond(usize),
@@ -152,7 +154,7 @@ fn refutation_rows(variables: usize, refutation: &[i32], room: usize) -> Checked
 // What a clause's literals say so far, by how many different ones are free: with none, that the clause is false; with
 // one, whose code is `unit`, that it becomes true; 2 stands for more, or for a true literal, and then there is nothing
 // to say, whatever comes after.
-#[derive(Drop)]
+#[derive(Clone, Copy)]
 pub struct Scan {
     pub free: u8,
     pub unit: usize,
