@@ -1,5 +1,7 @@
 // The library for a C host: seven functions on numbers and slices, each a call of the library and its answer as a
-// struct of numbers. include/buzzlumen.h declares them. Assumes nothing.
+// struct of numbers. The crate buzzlumen_c exports them, and include/buzzlumen.h declares them. Assumes nothing.
+#![tactic(auto)]
+
 ghost use Rattle.std.specs.Prelude.{◌≡◌, length, replicate};
 ghost use Rattle.settle.specs.Promise.{evaluation};
 ghost use Rattle.formula.specs.Promise.{building};
@@ -23,7 +25,7 @@ use settle::Settled;
 
 // The answer of an evaluation.
 #[repr(C)]
-#[derive(Drop)]
+#[derive(Clone, Copy)]
 pub struct Evaluated {
     pub number: u32,
     pub time: u32,
@@ -32,7 +34,7 @@ pub struct Evaluated {
 
 // The answer of a building call.
 #[repr(C)]
-#[derive(Drop)]
+#[derive(Clone, Copy)]
 pub struct Formed {
     pub number: u32,
     pub variables: u32,
@@ -44,7 +46,7 @@ pub struct Formed {
 
 // The answer of a check or of a certificate call: 0 or a refusal's number, and its place.
 #[repr(C)]
-#[derive(Drop)]
+#[derive(Clone, Copy)]
 pub struct Answer {
     pub number: u32,
     pub place: u64,
@@ -110,8 +112,7 @@ fn numbers_of_built(answer: Built) -> Formed
 }
 
 // Values and times of all nodes under a vector.
-#[unsafe(no_mangle)]
-pub extern "C" fn buzzlumen_evaluate(
+pub fn buzzlumen_evaluate(
     netlist: &[u8],
     arrivals: &[u32],
     vector: &[u8],
@@ -125,8 +126,7 @@ pub extern "C" fn buzzlumen_evaluate(
 }
 
 // The formula that says that some output settles at the target or later.
-#[unsafe(no_mangle)]
-pub extern "C" fn buzzlumen_build(
+pub fn buzzlumen_build(
     netlist: &[u8],
     arrivals: &[u32],
     target: u32,
@@ -140,8 +140,7 @@ pub extern "C" fn buzzlumen_build(
 }
 
 // Whether each clause of a refutation follows.
-#[unsafe(no_mangle)]
-pub extern "C" fn buzzlumen_check<'a>(
+pub fn buzzlumen_check<'a>(
     variables: u32,
     formula: &'a [i32],
     refutation: &'a [i32],
@@ -154,8 +153,7 @@ pub extern "C" fn buzzlumen_check<'a>(
 }
 
 // Whether a delay is the circuit's largest settling time by this certificate.
-#[unsafe(no_mangle)]
-pub extern "C" fn buzzlumen_judge(
+pub fn buzzlumen_judge(
     netlist: &[u8],
     arrivals: &[u32],
     delay: u32,
@@ -190,8 +188,7 @@ pub extern "C" fn buzzlumen_judge(
 // ---- gates whose delays of rise and fall stand apart
 
 // Values and times of all nodes under a vector, by the delays for each gate's final value.
-#[unsafe(no_mangle)]
-pub extern "C" fn buzzlumen_evaluate_rise_fall(
+pub fn buzzlumen_evaluate_rise_fall(
     netlist: &[u8],
     arrivals: &[u32],
     falls: &[u32],
@@ -207,8 +204,7 @@ pub extern "C" fn buzzlumen_evaluate_rise_fall(
 }
 
 // The formula that says that some output settles at the target or later, by these delays.
-#[unsafe(no_mangle)]
-pub extern "C" fn buzzlumen_build_rise_fall(
+pub fn buzzlumen_build_rise_fall(
     netlist: &[u8],
     arrivals: &[u32],
     falls: &[u32],
@@ -223,8 +219,7 @@ pub extern "C" fn buzzlumen_build_rise_fall(
 }
 
 // Whether the delay that is claimed is the circuit's largest settling time by this certificate, by these delays.
-#[unsafe(no_mangle)]
-pub extern "C" fn buzzlumen_judge_rise_fall(
+pub fn buzzlumen_judge_rise_fall(
     netlist: &[u8],
     arrivals: &[u32],
     falls: &[u32],

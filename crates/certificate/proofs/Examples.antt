@@ -9,7 +9,17 @@ use lib.IntN.{ℤ}
 use Rattle.basics.proofs.Lists.{map_each}
 use Rattle.netlist.specs.Netlist.{Circuit, Slopes, alike}
 use Rattle.netlist.specs.Kinds.{pins_fit, kind_of}
-use Rattle.netlist.specs.File.{table_bytes, shape_of, gate_at, pin_at, cell_of, cell_at, netlist_at, pins_from, circuit_of}
+use Rattle.netlist.specs.File.{
+  table_bytes,
+  shape_of,
+  gate_at,
+  pin_at,
+  cell_of,
+  cell_at,
+  netlist_at,
+  pins_from,
+  circuit_of,
+}
 use Rattle.netlist.specs.Open.{
   netlist_rows,
   arrival_rows,
@@ -147,11 +157,11 @@ computed : map answer_to cases ≡ map (λ (c : Case). c.answer) cases
 unfolding
     cases circuit_a wire netlist_rows arrival_rows first_wrong count_wrong back_wrong pins_before gate_wrong gate_place
     sum_wrong pins_at
-    pin_wrong pin_place output_wrong output_place pins_fit kind_of table_bytes shape_of gate_at pin_at pins_from cell_of cell_at
-    netlist_at gate_value settles grow values_of times_of tops_of circuit_time given_rows flat clauses_from
-    is_true is_free assign say pass refutes assert follows verdict refutation_form first_beyond ended last_row first_empty
-    asked times_at pair_list pair_place pairs_for clause_of gate_clauses late pair_clauses formula pair_variable
-    formula_for numbers_for counts_for building_rows
+    pin_wrong pin_place output_wrong output_place pins_fit kind_of table_bytes shape_of gate_at pin_at pins_from
+    cell_of cell_at netlist_at gate_value settles grow values_of times_of tops_of circuit_time given_rows flat
+    clauses_from is_true is_free assign say pass refutes assert follows verdict refutation_form first_beyond ended
+    last_row first_empty asked times_at pair_list pair_place pairs_for clause_of gate_clauses late pair_clauses
+    formula pair_variable formula_for numbers_for counts_for building_rows
 computed = refl
 
 -- each row's call has the row's answer

@@ -95,7 +95,8 @@ rows-admit file arrivals slopes rows e =
       record {
         valid = given.holds.valid;
         arrives = net-arrives file given.arrived;
-        small = slopes-small (shape_of file) slopes (slopes-pass (shape_of file) slopes (first_passes sloping own rest));
+        small =
+            slopes-small (shape_of file) slopes (slopes-pass (shape_of file) slopes (first_passes sloping own rest));
       },
       rest-passes sloping own rest,
     )

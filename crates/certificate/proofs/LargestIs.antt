@@ -78,7 +78,8 @@ module _ (file : List ℕ) (shape : Shape) (h : Holds file shape) (arrivals fall
   -- slopes by which every vector settles at the same time have the same largest settling time
   largest-by : (p q : Slopes) →
       ((vector : List Bool) →
-      circuit_time (circuit_with file shape arrivals p) vector ≡ circuit_time (circuit_with file shape arrivals q) vector) →
+      circuit_time (circuit_with file shape arrivals p) vector
+      ≡ circuit_time (circuit_with file shape arrivals q) vector) →
       (delay : ℕ) → Largest (circuit_with file shape arrivals p) delay →
       Largest (circuit_with file shape arrivals q) delay
   largest-by p q same delay l =

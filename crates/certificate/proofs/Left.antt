@@ -42,7 +42,8 @@ demand-of-numbers circuit ok as_many small target vector as_long =
 -- a building that answers with counts passed its rows, and is that of the circuit
 built-passed : (file arrivals : List ℕ) (slopes : Slopes) (target pairs_room formula_room : ℕ) (counts : Counts) →
     (building file arrivals slopes target pairs_room formula_room).answer ≡ Formula counts →
-    (checked (rows_over file arrivals slopes (λ circuit. building_rows circuit target pairs_room formula_room)) ≡ Passes)
+    (checked (rows_over file arrivals slopes (λ circuit. building_rows circuit target pairs_room formula_room))
+    ≡ Passes)
     × (building file arrivals slopes target pairs_room formula_room
     ≡ built (circuit_of file arrivals slopes) target pairs_room formula_room)
 unfolding building
@@ -58,7 +59,8 @@ built-passed file arrivals slopes target pairs_room formula_room counts f =
     go (Refused refusal) e = let w : ◌≡◌ {A = ℕ} 0 1 = cc in absurd (omega arith)
 
 -- of what `build` and `build_rise_fall` answer and leave, for any bytes
-pub demand-of-build : (file arrivals : List ℕ) (slopes : Slopes) (target pairs_room formula_room : ℕ) (counts : Counts) →
+pub demand-of-build : (file arrivals : List ℕ) (slopes : Slopes) (target pairs_room formula_room : ℕ)
+    (counts : Counts) →
     (building file arrivals slopes target pairs_room formula_room).answer ≡ Formula counts →
     (vector : List Bool) → length vector ≡ (circuit_of file arrivals slopes).net.inputs →
     Completes (circuit_of file arrivals slopes).net vector

@@ -2,7 +2,7 @@
 -- delay; the formula's rows pass; the refutation has an empty clause. Each row is taken apart by its own test. Laws:
 -- certificate-passes, refutation-passes. Assumes nothing.
 use mathlib.Core.Path.{◌≡◌, refl}
-use mathlib.Core.Bool.{Bool, true, false, not}
+use mathlib.Core.Bool.{not}
 use mathlib.Core.List.{List, [], ◌∷◌, Memᴰ}
 use Prim.Native.Nat.{ℕ, suc, ◌<◌}
 use native.Mathlib.Omega.{arith}

@@ -1,5 +1,7 @@
 // The judgement of a delay certificate: a delay, a vector that settles at it, and a refutation of the formula for one
 // more; for circuits with one delay a pin, and for those with delays of rise and of fall. Assumes nothing.
+#![tactic(auto)]
+
 ghost use Rattle.std.specs.Prelude.{◌≡◌, length};
 ghost use Rattle.netlist.specs.declared.Opened.TheVariants.{Accepted};
 ghost use Rattle.netlist.specs.Netlist.{alike, apart, slopes_by};
