@@ -5,51 +5,63 @@
 // and the part at the place, `next` and the place past it, `second` and the formula's second clause, `places` and
 // where a reader stands after each of four steps from the start. Its room: an input of 65,536 bytes. What matters are
 // the contracts of refute::clause and of reader. Assumes nothing of its own.
-ghost use Rattle.std.specs.Prelude.{◌+◌, ◌*◌, ◌≤◌, ◌<◌, min, length};
+#![tactic(auto)]
+
+ghost use Rattle.std.specs.Prelude.{◌+◌, ◌*◌, ◌≤◌, ◌<◌, min, length, IfOk};
+
+use std::io::{self, Write};
 
 // A space and a signed number.
-fn print_signed(number: i32) {
+fn print_signed<W: Write>(out: &mut W, number: i32) -> io::Result<()> {
     let code = clauses::code_of(number);
-    console::print(b" ");
+    console::print(out, b" ")?;
     if code % 2 == 1 {
-        console::print(b"-");
+        console::print(out, b"-")?;
     }
-    console::print_decimal(code / 2);
+    console::print_decimal(out, code / 2)
 }
 
 // The numbers of a part.
-fn print_part(part: &[i32]) {
+fn print_part<W: Write>(out: &mut W, part: &[i32]) -> io::Result<()> {
     let mut k = 0;
     while k < part.len() {
-        print_signed(part[k]);
+        print_signed(out, part[k])?;
         k += 1;
     }
+    Ok(())
 }
 
 // Where a reader of the formula stands after each of four steps.
-fn print_places(formula: &[i32]) {
+fn print_places<W: Write>(out: &mut W, formula: &[i32]) -> io::Result<()> {
     let mut at: usize = 0;
     let mut turns: usize = 0;
     while turns < 4 {
         at = reader::next_from(formula, at);
-        console::print_number(at);
+        console::print_number(out, at)?;
         turns += 1;
     }
+    Ok(())
 }
 
 // The line of one case.
-fn answer<'a>(formula: &'a [i32], refutation: &'a [i32], number: usize, place: usize) {
-    console::print(b"clause");
-    print_part(refute::clause(formula, refutation, number));
-    console::print(b" reader");
-    print_part(reader::clause_from(formula, place));
-    console::print(b" next");
-    console::print_number(reader::next_from(formula, place));
-    console::print(b" second");
-    print_part(reader::second_clause(formula));
-    console::print(b" places");
-    print_places(formula);
-    console::print(b"\n");
+fn answer<'a, W: Write>(
+    out: &mut W,
+    formula: &'a [i32],
+    refutation: &'a [i32],
+    number: usize,
+    place: usize,
+) -> io::Result<()> {
+    console::print(out, b"clause")?;
+    print_part(out, refute::clause(formula, refutation, number))?;
+    console::print(out, b" reader")?;
+    print_part(out, reader::clause_from(formula, place))?;
+    console::print(out, b" next")?;
+    console::print_number(out, reader::next_from(formula, place))?;
+    console::print(out, b" second")?;
+    print_part(out, reader::second_clause(formula))?;
+    console::print(out, b" places")?;
+    print_places(out, formula)?;
+    console::print(out, b"\n")
 }
 
 // The magnitude of the number at a place, 0 where the input has ended.
@@ -73,9 +85,9 @@ fn past_list(numbers: &[i32], at: usize) -> usize
 }
 
 // One case from a place on; the place past it.
-fn run_case(numbers: &[i32], at: usize) -> usize
+fn run_case<W: Write>(out: &mut W, numbers: &[i32], at: usize) -> io::Result<usize>
     requires { (at < length numbers.now) × (length numbers.now ≤ 16384) }
-    ensures { at < result }
+    ensures { IfOk result (λ past. at < past) }
 {
     let first = at + 1;
     let middle = past_list(numbers, at);
@@ -84,45 +96,48 @@ fn run_case(numbers: &[i32], at: usize) -> usize
     let number = magnitude_at(numbers, end);
     let place = magnitude_at(numbers, end + 1);
     answer(
+        out,
         &numbers[first..middle],
         &numbers[second..end],
         number,
         place,
-    );
-    end + 2
+    )?;
+    Ok(end + 2)
 }
 
 // Every case.
-fn run(numbers: &[i32])
+fn run<W: Write>(out: &mut W, numbers: &[i32]) -> io::Result<()>
     requires { length numbers.now ≤ 16384 }
 {
     let mut at: usize = 0;
     while at < numbers.len() {
-        at = run_case(numbers, at);
+        at = run_case(out, numbers, at)?;
     }
+    Ok(())
 }
 
 // The cases of an input: as many numbers as there is room for are read.
-fn answer_all(input: &[u8], numbers: &mut [i32])
+fn answer_all<W: Write>(out: &mut W, input: &[u8], numbers: &mut [i32]) -> io::Result<()>
     requires { (length numbers.old * 4 ≤ length input.now) × (length numbers.old ≤ 16384) }
 {
     console::numbers_of(input, numbers);
-    run(numbers);
+    run(out, numbers)
 }
 
 // The numbers of an input.
-fn take(input: &[u8], numbers: &mut [i32])
+fn take<W: Write>(out: &mut W, input: &[u8], numbers: &mut [i32]) -> io::Result<()>
     requires { length numbers.old ≤ 16384 }
 {
     let count = input.len() / 4;
     if count <= numbers.len() {
-        answer_all(input, &mut numbers[..count]);
+        return answer_all(out, input, &mut numbers[..count]);
     }
+    Ok(())
 }
 
-fn main() {
-    let mut input = io::large_buffer();
+fn main(rt: HostRuntime) -> io::Result<()> {
+    let mut input = [0u8; 65536];
     let mut numbers = [0i32; 16384];
-    let got = console::read(&mut input);
-    take(&input[..got], &mut numbers);
+    let got = console::read(&mut rt.reader(), &mut input)?;
+    take(&mut io::writer(&rt), &input[..got], &mut numbers)
 }

@@ -1,6 +1,6 @@
 -- What a word of four bytes comes to, by how many of them came. Laws: word_none, word_cut, word-whole; told-cut and
 -- told-whole of the length in front of a list. Assumes nothing.
-use mathlib.Core.Path.{◌≡◌, ap, sym, ◌∙◌}
+use mathlib.Core.Path.{◌≡◌, ap, ◌∙◌}
 use mathlib.Core.List.{List}
 use Prim.Native.Nat.{ℕ, ◌≤◌, ◌<◌}
 use native.Mathlib.Omega.{arith}

@@ -1,58 +1,115 @@
-// What the programs share: the lines that they print, and the numbers that they read. A thin layer over the kit's io,
-// whose contracts are assumptions about the system. Assumes nothing of its own.
-ghost use Rattle.std.specs.Prelude.{◌≡◌, false, ◌++◌, ◌+◌, ◌-◌, ◌*◌, ◌/◌, ◌≤◌, min, length, drop};
-ghost use Rattle.io.specs.Counts.{IsPrefixLen};
+// What the programs share: the lines that they print, and the numbers that they read. A thin layer over std's readers
+// and writers, which asks for no memory. Every failure is the reader's or the writer's own, and is answered as it
+// comes; a writer that takes nothing has failed. Assumes nothing.
+#![tactic(auto)]
+
+ghost use Rattle.std.specs.Prelude.{◌≡◌, false, ◌∷◌, [], ◌++◌, ◌+◌, ◌-◌, ◌*◌, ◌/◌, ◌<◌, ◌≤◌, ℕ, List};
+ghost use Rattle.std.specs.Prelude.{min, length, drop, take, codes, IfOk, OnErr};
+ghost use Rattle.std.specs.Fmt.{decimal};
+ghost use Rattle.std.specs.Io.{ReadsAtMost};
+ghost use Rattle.std.specs.Io.KnownBytes.{Consumes, IsAtEnd};
+ghost use Rattle.refusal.specs.Table.{number_of, place_of};
 ghost use Rattle.console.specs.Reading.{numbers_of, unsigned_of, told_of, word_of, Came};
+ghost use Rattle.console.specs.Writing.{Written, number_text, refusal_text};
 
-use libc::{STDIN_FILENO, STDOUT_FILENO};
 use refusal::Refusal;
+use std::io::{self, ErrorKind, Read, Write};
 
-// Words as they are.
-pub fn print(words: &[u8]) {
-    io::write_all(STDOUT_FILENO, words);
+// Words as they are. Where it fails, a front of them is written, and so it is with all that print below.
+pub fn print<W: Write>(out: &mut W, words: &[u8]) -> io::Result<()>
+    ensures { Written (W.contents out.old) (W.contents out.new) result words.now }
+{
+    let mut done = 0;
+    while done < words.len() {
+        let taken = out.write(&words[done..])?;
+        if taken == 0 {
+            return Err(io::Error::from(ErrorKind::WriteZero));
+        }
+        done += taken;
+    }
+    Ok(())
+}
+
+// A number's digits at the start of a text; how many.
+fn put_digits(number: usize, text: &mut [u8; 20]) -> usize
+    ensures count { result ≡ length (decimal number) }
+    ensures digits { take result text.new ≡ decimal number }
+    ensures room { result ≤ 20 }
+{
+    if number < 10 {
+        text[0] = b'0' + number as u8;
+        return 1;
+    }
+    let count = put_digits(number / 10, text);
+    text[count] = b'0' + (number % 10) as u8;
+    count + 1
 }
 
 // A number.
-pub fn print_decimal(number: usize) {
-    io::print_decimal(STDOUT_FILENO, number as u64);
+pub fn print_decimal<W: Write>(out: &mut W, number: usize) -> io::Result<()>
+    ensures { Written (W.contents out.old) (W.contents out.new) result (decimal number) }
+{
+    let mut text = [0u8; 20];
+    let count = put_digits(number, &mut text);
+    print(out, &text[..count])
 }
 
 // A space and a number.
-pub fn print_number(number: usize) {
-    print(b" ");
-    print_decimal(number);
+pub fn print_number<W: Write>(out: &mut W, number: usize) -> io::Result<()>
+    ensures { Written (W.contents out.old) (W.contents out.new) result (number_text number) }
+{
+    print(out, b" ")?;
+    print_decimal(out, number)
 }
 
 // The words `refused number place`.
-pub fn print_refusal(refusal: Refusal) {
-    print(b"refused");
-    print_number(refusal::number(refusal) as usize);
-    print_number(refusal::place(refusal));
+pub fn print_refusal<W: Write>(out: &mut W, refusal: Refusal) -> io::Result<()>
+    ensures { Written (W.contents out.old) (W.contents out.new) result (refusal_text refusal) }
+{
+    print(out, b"refused")?;
+    print_number(out, refusal::number(refusal) as usize)?;
+    print_number(out, refusal::place(refusal))
 }
 
 // The line of these words.
-pub fn print_refused(refusal: Refusal) {
-    print_refusal(refusal);
-    print(b"\n");
+pub fn print_refused<W: Write>(out: &mut W, refusal: Refusal) -> io::Result<()>
+    ensures { Written (W.contents out.old) (W.contents out.new) result (refusal_text refusal ++ (10 ∷ [])) }
+{
+    print_refusal(out, refusal)?;
+    print(out, b"\n")
 }
 
 // The last line of a bundle of cases that is not one; there is no more case.
-pub fn bad_bundle() -> bool
-    ensures { result ≡ false }
+pub fn bad_bundle<W: Write>(out: &mut W) -> io::Result<bool>
+    ensures no_more { IfOk result (λ more. more ≡ false) }
+    ensures written { Written (W.contents out.old) (W.contents out.new) result (codes "bad bundle" ++ (10 ∷ [])) }
 {
-    print(b"bad bundle\n");
-    false
+    print(out, b"bad bundle\n")?;
+    Ok(false)
 }
 
-// Reads until the slice is full or the input ends; how many bytes came.
-pub fn read(slice: &mut [u8]) -> usize
-    ensures { IsPrefixLen result slice.new }
+// Reads until the slice is full or the input ends; how many bytes came. Where it fails, the bytes that came before
+// stand at the front of the slice, and nothing is said of what is behind them.
+pub fn read<R: Read>(input: &mut R, slice: &mut [u8]) -> io::Result<usize>
+    ensures bound { ReadsAtMost result slice.new }
+    ensures bytes { IfOk result (λ got. Consumes (R.remaining input.old) (R.remaining input.new) (take got slice.new)) }
+    ensures end { IfOk result (λ got. got < length slice.new → IsAtEnd (R.remaining input.new)) }
+    ensures err { OnErr result ((got : ℕ) × (got ≤ length slice.new)
+        × Consumes (R.remaining input.old) (R.remaining input.new) (take got slice.new)) }
 {
-    io::read_full(STDIN_FILENO, slice)
+    let mut done = 0;
+    while done < slice.len() {
+        let came = input.read(&mut slice[done..])?;
+        if came == 0 {
+            return Ok(done);
+        }
+        done += came;
+    }
+    Ok(done)
 }
 
 // What stands where a number of four bytes should.
-#[derive(Drop)]
+#[derive(Clone, Copy)]
 pub enum Word {
     Number(usize),
     Nothing,
@@ -74,12 +131,14 @@ fn word_of(got: usize, head: &[u8]) -> Word
 }
 
 // Reads four bytes, little endian.
-pub fn read_number() -> Word
-    ensures { Came result }
+pub fn read_number<R: Read>(input: &mut R) -> io::Result<Word>
+    ensures came { IfOk result (λ word. Came word) }
+    ensures err { OnErr result ((bytes : List ℕ) × (length bytes ≤ 4)
+        × Consumes (R.remaining input.old) (R.remaining input.new) bytes) }
 {
     let mut head = [0u8; 4];
-    let got = read(&mut head);
-    word_of(got, &head)
+    let got = read(input, &mut head)?;
+    Ok(word_of(got, &head))
 }
 
 // The smaller of two numbers: what is told of a length, and what is there.

@@ -2,9 +2,12 @@
 // the variable count, the formula's count of numbers and its numbers, the refutation's count and numbers, and the room
 // for propagation, each 4 bytes, little endian, two's complement. What is missing at the end of the input reads as 0.
 // What matters is the contract of refute::check. Assumes nothing of its own.
+#![tactic(auto)]
+
 ghost use Rattle.std.specs.Prelude.{◌+◌, ◌≤◌, ◌<◌, length};
 
 use refusal::Checked;
+use std::io::{self, Write};
 
 // The four bytes from a place on as one number, or 0 where the input has ended.
 fn word(input: &[u8], at: usize) -> usize
@@ -70,23 +73,24 @@ fn is_guarded(slice: &[u8], room: usize) -> bool
 }
 
 // The answer to one check.
-fn print_answer(answer: Checked) {
+fn print_answer<W: Write>(out: &mut W, answer: Checked) -> io::Result<()> {
     match answer {
-        Checked::Passes => console::print(b"passes"),
-        Checked::Refused(refusal) => console::print_refusal(refusal),
+        Checked::Passes => console::print(out, b"passes"),
+        Checked::Refused(refusal) => console::print_refusal(out, refusal),
     }
 }
 
 // One check: the formula stands at the start of the numbers, the refutation from place 4,096 on. Prints the answer,
 // whether the lent part of the slice is zeroed, and whether the four bytes behind it are untouched.
-fn check_case(
+fn check_case<W: Write>(
+    out: &mut W,
     variables: usize,
     numbers: &[i32],
     formula: usize,
     refutation: usize,
     slice: &mut [u8],
     room: usize,
-)
+) -> io::Result<()>
     requires variables_bound { (variables < 4294967296) × (formula ≤ 4096) × (refutation ≤ 4096) × (room ≤ 4096) }
     requires in_bounds { (8192 ≤ length numbers.now) × (4100 ≤ length slice.old) }
 {
@@ -100,18 +104,24 @@ fn check_case(
         &numbers[second..end],
         &mut slice[start..room],
     );
-    print_answer(answer);
+    print_answer(out, answer)?;
     if is_zeroed(slice, room) {
-        console::print(b" zeros");
+        console::print(out, b" zeros")?;
     }
     if is_guarded(slice, room) {
-        console::print(b" guards");
+        console::print(out, b" guards")?;
     }
-    console::print(b"\n");
+    console::print(out, b"\n")
 }
 
 // One case from a place on; the place after it.
-fn run_case(input: &[u8], at: usize, numbers: &mut [i32], slice: &mut [u8]) -> usize
+fn run_case<W: Write>(
+    out: &mut W,
+    input: &[u8],
+    at: usize,
+    numbers: &mut [i32],
+    slice: &mut [u8],
+) -> io::Result<usize>
     requires { (at < 65536) × (8192 ≤ length numbers.old) × (4100 ≤ length slice.old) }
 {
     let variables = word(input, at);
@@ -120,12 +130,12 @@ fn run_case(input: &[u8], at: usize, numbers: &mut [i32], slice: &mut [u8]) -> u
     let refutation = read_list(input, middle, numbers, 4096);
     let last = middle + 4 + refutation * 4;
     let room = console::least(word(input, last), 4096);
-    check_case(variables, numbers, formula, refutation, slice, room);
-    last + 4
+    check_case(out, variables, numbers, formula, refutation, slice, room)?;
+    Ok(last + 4)
 }
 
 // Every case of the input.
-fn run(input: &[u8], numbers: &mut [i32], slice: &mut [u8])
+fn run<W: Write>(out: &mut W, input: &[u8], numbers: &mut [i32], slice: &mut [u8]) -> io::Result<()>
     requires { (8192 ≤ length numbers.old) × (4100 ≤ length slice.old) × (length input.now ≤ 65536) }
 {
     let mut at: usize = 0;
@@ -134,15 +144,16 @@ fn run(input: &[u8], numbers: &mut [i32], slice: &mut [u8])
         if input.len() <= at {
             break;
         }
-        at = run_case(input, at, numbers, slice);
+        at = run_case(out, input, at, numbers, slice)?;
         turns += 1;
     }
+    Ok(())
 }
 
-fn main() {
-    let mut input = io::large_buffer();
+fn main(rt: HostRuntime) -> io::Result<()> {
+    let mut input = [0u8; 65536];
     let mut numbers = [0i32; 8192];
     let mut slice = [0u8; 4100];
-    let n = console::read(&mut input);
-    run(&input[..n], &mut numbers, &mut slice);
+    let n = console::read(&mut rt.reader(), &mut input)?;
+    run(&mut io::writer(&rt), &input[..n], &mut numbers, &mut slice)
 }

@@ -5,40 +5,45 @@
 // numbers behind it. It ends with the line `bad bundle` at a netlist over 65,535 bytes, over 255 arrivals, a vector
 // over 255, a room over 600, and a case that is cut short. What matters is the contract of settle::evaluate. Assumes
 // nothing of its own.
+#![tactic(auto)]
+
 ghost use Rattle.std.specs.Prelude.{◌≡◌, ◌*◌, ◌≤◌, length};
 
 use console::Word;
 use settle::Settled;
+use std::io::{self, Read, Write};
 
 // The answer.
-fn print_answer(settled: Settled) {
+fn print_answer<W: Write>(out: &mut W, settled: Settled) -> io::Result<()> {
     match settled {
         Settled::At(time) => {
-            console::print(b"settled");
-            console::print_number(lent::widen(time));
+            console::print(out, b"settled")?;
+            console::print_number(out, lent::widen(time))
         }
-        Settled::Refused(refusal) => console::print_refusal(refusal),
+        Settled::Refused(refusal) => console::print_refusal(out, refusal),
     }
 }
 
 // The values.
-fn print_values(values: &[u8]) {
-    console::print(b" values");
+fn print_values<W: Write>(out: &mut W, values: &[u8]) -> io::Result<()> {
+    console::print(out, b" values")?;
     let mut i = 0;
     while i < values.len() {
-        console::print_number(lent::wide(values[i]));
+        console::print_number(out, lent::wide(values[i]))?;
         i += 1;
     }
+    Ok(())
 }
 
 // The times.
-fn print_times(times: &[u32]) {
-    console::print(b" times");
+fn print_times<W: Write>(out: &mut W, times: &[u32]) -> io::Result<()> {
+    console::print(out, b" times")?;
     let mut i = 0;
     while i < times.len() {
-        console::print_number(lent::widen(times[i]));
+        console::print_number(out, lent::widen(times[i]))?;
         i += 1;
     }
+    Ok(())
 }
 
 // Room for values, filled with a pattern.
@@ -63,131 +68,172 @@ fn arrivals_room() -> [u32; 255]
 }
 
 // The line of one case.
-fn answer(file: &[u8], arrivals: &[u32], vector: &[u8], values_room: usize, times_room: usize)
-    requires { (values_room ≤ 600) × (times_room ≤ 600) }
-{
-    let mut values = patterned_values();
-    let mut times = patterned_times();
-    print_answer(settle::evaluate(
-        file,
-        arrivals,
-        vector,
-        &mut values[..values_room],
-        &mut times[..times_room],
-    ));
-    let values_shown = values_room + 4;
-    print_values(&values[..values_shown]);
-    let times_shown = times_room + 4;
-    print_times(&times[..times_shown]);
-    console::print(b"\n");
-}
-
-// A case of which all but the slices is there; whether to go on.
-fn take_rooms(
+fn answer<W: Write>(
+    out: &mut W,
     file: &[u8],
     arrivals: &[u32],
     vector: &[u8],
     values_room: usize,
     times_room: usize,
-) -> bool {
+) -> io::Result<()>
+    requires { (values_room ≤ 600) × (times_room ≤ 600) }
+{
+    let mut values = patterned_values();
+    let mut times = patterned_times();
+    let settled = settle::evaluate(
+        file,
+        arrivals,
+        vector,
+        &mut values[..values_room],
+        &mut times[..times_room],
+    );
+    print_answer(out, settled)?;
+    let values_shown = values_room + 4;
+    print_values(out, &values[..values_shown])?;
+    let times_shown = times_room + 4;
+    print_times(out, &times[..times_shown])?;
+    console::print(out, b"\n")
+}
+
+// A case of which all but the slices is there; whether to go on.
+fn take_rooms<W: Write>(
+    out: &mut W,
+    file: &[u8],
+    arrivals: &[u32],
+    vector: &[u8],
+    values_room: usize,
+    times_room: usize,
+) -> io::Result<bool> {
     if 600 < values_room {
-        return console::bad_bundle();
+        return console::bad_bundle(out);
     }
     if 600 < times_room {
-        return console::bad_bundle();
+        return console::bad_bundle(out);
     }
-    answer(file, arrivals, vector, values_room, times_room);
-    true
+    answer(out, file, arrivals, vector, values_room, times_room)?;
+    Ok(true)
 }
 
 // The bytes of a vector, of a length that was read, and the rooms; whether to go on.
-fn read_vector(file: &[u8], arrivals: &[u32], vector: &mut [u8]) -> bool {
-    if console::read(vector) < vector.len() {
-        return console::bad_bundle();
+fn read_vector<R: Read, W: Write>(
+    input: &mut R,
+    out: &mut W,
+    file: &[u8],
+    arrivals: &[u32],
+    vector: &mut [u8],
+) -> io::Result<bool> {
+    if console::read(input, vector)? < vector.len() {
+        return console::bad_bundle(out);
     }
     let mut rooms = [0u8; 8];
-    if console::read(&mut rooms) < 8 {
-        return console::bad_bundle();
+    if console::read(input, &mut rooms)? < 8 {
+        return console::bad_bundle(out);
     }
     let values_room = lent::four_bytes(&rooms, 0);
     let times_room = lent::four_bytes(&rooms, 4);
-    take_rooms(file, arrivals, vector, values_room, times_room)
+    take_rooms(out, file, arrivals, vector, values_room, times_room)
 }
 
 // A vector of a length that was read; whether to go on.
-fn take_vector(file: &[u8], arrivals: &[u32], length: usize) -> bool {
+fn take_vector<R: Read, W: Write>(
+    input: &mut R,
+    out: &mut W,
+    file: &[u8],
+    arrivals: &[u32],
+    length: usize,
+) -> io::Result<bool> {
     if 255 < length {
-        return console::bad_bundle();
+        return console::bad_bundle(out);
     }
-    let mut vector = io::buffer();
-    read_vector(file, arrivals, &mut vector[..length])
+    let mut vector = [0u8; 4096];
+    read_vector(input, out, file, arrivals, &mut vector[..length])
 }
 
 // Arrivals whose bytes were read, and the vector; whether to go on.
-fn with_arrivals(file: &[u8], bytes: &[u8], arrivals: &mut [u32]) -> bool
+fn with_arrivals<R: Read, W: Write>(
+    input: &mut R,
+    out: &mut W,
+    file: &[u8],
+    bytes: &[u8],
+    arrivals: &mut [u32],
+) -> io::Result<bool>
     requires { length arrivals.old * 4 ≤ length bytes.now }
 {
     console::unsigned_of(bytes, arrivals);
-    match console::read_number() {
-        Word::Number(length) => take_vector(file, arrivals, length),
-        Word::Nothing | Word::Cut => console::bad_bundle(),
+    match console::read_number(input)? {
+        Word::Number(length) => take_vector(input, out, file, arrivals, length),
+        Word::Nothing | Word::Cut => console::bad_bundle(out),
     }
 }
 
 // The bytes of so many arrivals, and the vector; whether to go on.
-fn read_arrivals(file: &[u8], bytes: &mut [u8], arrivals: &mut [u32]) -> bool
+fn read_arrivals<R: Read, W: Write>(
+    input: &mut R,
+    out: &mut W,
+    file: &[u8],
+    bytes: &mut [u8],
+    arrivals: &mut [u32],
+) -> io::Result<bool>
     requires { length arrivals.old * 4 ≤ length bytes.old }
 {
-    if console::read(bytes) < bytes.len() {
-        return console::bad_bundle();
+    if console::read(input, bytes)? < bytes.len() {
+        return console::bad_bundle(out);
     }
-    with_arrivals(file, bytes, arrivals)
+    with_arrivals(input, out, file, bytes, arrivals)
 }
 
 // As many arrivals as were told; whether to go on.
-fn take_arrivals(file: &[u8], count: usize) -> bool {
+fn take_arrivals<R: Read, W: Write>(
+    input: &mut R,
+    out: &mut W,
+    file: &[u8],
+    count: usize,
+) -> io::Result<bool> {
     if 255 < count {
-        return console::bad_bundle();
+        return console::bad_bundle(out);
     }
-    let mut bytes = io::buffer();
+    let mut bytes = [0u8; 4096];
     let mut arrivals = arrivals_room();
     let end = count * 4;
-    read_arrivals(file, &mut bytes[..end], &mut arrivals[..count])
+    read_arrivals(input, out, file, &mut bytes[..end], &mut arrivals[..count])
 }
 
 // The bytes of a netlist, of a length that was read, and the arrivals; whether to go on.
-fn read_file(file: &mut [u8]) -> bool {
-    if console::read(file) < file.len() {
-        return console::bad_bundle();
+fn read_file<R: Read, W: Write>(input: &mut R, out: &mut W, file: &mut [u8]) -> io::Result<bool> {
+    if console::read(input, file)? < file.len() {
+        return console::bad_bundle(out);
     }
-    match console::read_number() {
-        Word::Number(count) => take_arrivals(file, count),
-        Word::Nothing | Word::Cut => console::bad_bundle(),
+    match console::read_number(input)? {
+        Word::Number(count) => take_arrivals(input, out, file, count),
+        Word::Nothing | Word::Cut => console::bad_bundle(out),
     }
 }
 
 // A netlist of a length that was read; whether to go on.
-fn take_file(length: usize) -> bool {
+fn take_file<R: Read, W: Write>(input: &mut R, out: &mut W, length: usize) -> io::Result<bool> {
     if 65535 < length {
-        return console::bad_bundle();
+        return console::bad_bundle(out);
     }
-    let mut file = io::large_buffer();
-    read_file(&mut file[..length])
+    let mut file = [0u8; 65536];
+    read_file(input, out, &mut file[..length])
 }
 
 // One case; whether to go on.
-fn next_case() -> bool {
-    match console::read_number() {
-        Word::Number(length) => take_file(length),
-        Word::Nothing => false,
-        Word::Cut => console::bad_bundle(),
+fn next_case<R: Read, W: Write>(input: &mut R, out: &mut W) -> io::Result<bool> {
+    match console::read_number(input)? {
+        Word::Number(length) => take_file(input, out, length),
+        Word::Nothing => Ok(false),
+        Word::Cut => console::bad_bundle(out),
     }
 }
 
 // A proved loop has to end, and nothing says that a bundle does: it counts down from a number that no run uses up.
-fn main() {
+fn main(rt: HostRuntime) -> io::Result<()> {
+    let mut input = rt.reader();
+    let mut out = io::writer(&rt);
     let mut turns = u64::MAX;
-    while turns > 0 && next_case() {
+    while turns > 0 && next_case(&mut input, &mut out)? {
         turns -= 1;
     }
+    Ok(())
 }

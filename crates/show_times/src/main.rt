@@ -5,9 +5,12 @@
 // Prints `settled T`, then a line `node value time` for each node; or `refused number place`. An input of fewer than 4
 // bytes is `refused 1` and its length. Its room: an input of 65,536 bytes (a longer one: `refused 9 65537`). What
 // matters is the contract of settle::evaluate and settle::evaluate_rise_fall. Assumes nothing of its own.
+#![tactic(auto)]
+
 use netlist::Opened;
 use refusal::Refusal;
 use settle::Settled;
+use std::io::{self, Write};
 
 // How many nodes the netlist has; none where it is refused.
 fn node_count(file: &[u8]) -> usize {
@@ -18,48 +21,66 @@ fn node_count(file: &[u8]) -> usize {
 }
 
 // The line of one node.
-fn print_node(node: usize, values: &[u8], times: &[u32]) {
+fn print_node<W: Write>(out: &mut W, node: usize, values: &[u8], times: &[u32]) -> io::Result<()> {
     if node < values.len() {
         if node < times.len() {
-            console::print_decimal(node);
-            console::print_number(lent::wide(values[node]));
-            console::print_number(lent::widen(times[node]));
-            console::print(b"\n");
+            console::print_decimal(out, node)?;
+            console::print_number(out, lent::wide(values[node]))?;
+            console::print_number(out, lent::widen(times[node]))?;
+            console::print(out, b"\n")?;
         }
     }
+    Ok(())
 }
 
 // One line for each node.
-fn print_nodes(count: usize, values: &[u8], times: &[u32]) {
+fn print_nodes<W: Write>(
+    out: &mut W,
+    count: usize,
+    values: &[u8],
+    times: &[u32],
+) -> io::Result<()> {
     let mut node = 0;
     while node < count {
-        print_node(node, values, times);
+        print_node(out, node, values, times)?;
         node += 1;
     }
+    Ok(())
 }
 
 // The answer for a netlist, and what it left in the slices.
-fn show(answer: Settled, file: &[u8], values: &[u8], times: &[u32]) {
+fn show<W: Write>(
+    out: &mut W,
+    answer: Settled,
+    file: &[u8],
+    values: &[u8],
+    times: &[u32],
+) -> io::Result<()> {
     match answer {
         Settled::At(time) => {
-            console::print(b"settled");
-            console::print_number(lent::widen(time));
-            console::print(b"\n");
-            print_nodes(node_count(file), values, times);
+            console::print(out, b"settled")?;
+            console::print_number(out, lent::widen(time))?;
+            console::print(out, b"\n")?;
+            print_nodes(out, node_count(file), values, times)
         }
-        Settled::Refused(refusal) => console::print_refused(refusal),
+        Settled::Refused(refusal) => console::print_refused(out, refusal),
     }
 }
 
 // What stands behind the arrivals: nothing, or the delays of gates that end at 0, of which the 2,049th is one too many
 // for any netlist.
-fn with_arrivals(rest: &[u8], file: &[u8], arrivals: &[u32], vector: &[u8]) {
+fn with_arrivals<W: Write>(
+    out: &mut W,
+    rest: &[u8],
+    file: &[u8],
+    arrivals: &[u32],
+    vector: &[u8],
+) -> io::Result<()> {
     let mut values = [0u8; 512];
     let mut times = [0u32; 512];
     if rest.len() < 4 {
         let answer = settle::evaluate(file, arrivals, vector, &mut values, &mut times);
-        show(answer, file, &values, &times);
-        return;
+        return show(out, answer, file, &values, &times);
     }
     let mut falls = [0u32; 2049];
     let count = console::counted_of(rest, &mut falls);
@@ -71,39 +92,39 @@ fn with_arrivals(rest: &[u8], file: &[u8], arrivals: &[u32], vector: &[u8]) {
         &mut values,
         &mut times,
     );
-    show(answer, file, &values, &times);
+    show(out, answer, file, &values, &times)
 }
 
 // The arrivals read, of which the 65th is one too many for any netlist.
-fn with_netlist(rest: &[u8], file: &[u8], vector: &[u8]) {
+fn with_netlist<W: Write>(out: &mut W, rest: &[u8], file: &[u8], vector: &[u8]) -> io::Result<()> {
     let mut arrivals = [0u32; 65];
     let count = console::counted_of(rest, &mut arrivals);
     let end = console::counted_end(rest);
-    with_arrivals(&rest[end..], file, &arrivals[..count], vector);
+    with_arrivals(out, &rest[end..], file, &arrivals[..count], vector)
 }
 
 // What stands behind the vector: the netlist, then the rest.
-fn with_vector(rest: &[u8], vector: &[u8]) {
+fn with_vector<W: Write>(out: &mut W, rest: &[u8], vector: &[u8]) -> io::Result<()> {
     let start = console::least(4, rest.len());
     let end = start + console::least(console::told_by(rest), rest.len() - start);
-    with_netlist(&rest[end..], &rest[start..end], vector);
+    with_netlist(out, &rest[end..], &rest[start..end], vector)
 }
 
 // The input taken apart.
-fn answer(input: &[u8]) {
+fn answer<W: Write>(out: &mut W, input: &[u8]) -> io::Result<()> {
     if input.len() < 4 {
-        return console::print_refused(Refusal::Short(input.len()));
+        return console::print_refused(out, Refusal::Short(input.len()));
     }
     let end = 4 + console::least(lent::four_bytes(input, 0), input.len() - 4);
-    with_vector(&input[end..], &input[4..end]);
+    with_vector(out, &input[end..], &input[4..end])
 }
 
-fn main() {
+fn main(rt: HostRuntime) -> io::Result<()> {
     let mut input = [0u8; 65537];
-    let got = console::read(&mut input);
+    let got = console::read(&mut rt.reader(), &mut input)?;
+    let mut out = io::writer(&rt);
     if 65536 < got {
-        console::print_refused(Refusal::Room(65537));
-        return;
+        return console::print_refused(&mut out, Refusal::Room(65537));
     }
-    answer(&input[..got]);
+    answer(&mut out, &input[..got])
 }

@@ -1,0 +1,11 @@
+-- The formula's room is too long to be written out: its length is that of what it repeats.
+use Rattle.std.proofs.Common.{sym}
+use Rattle.std.specs.Prelude.{pos}
+use Rattle.std.proofs.lemmas.List.{length-replicate}
+use Rattle.judge_delay.proofs.with_arrivals.Goals as goal
+
+pub slice_bounds-judge-end-then-rest-lt4 : goal.slice_bounds-judge-end-then-rest-lt4
+slice_bounds-judge-end-then-rest-lt4 g c = sym (length-replicate 524288 (pos 0))
+
+pub slice_bounds-judge_rise_fall-end-2 : goal.slice_bounds-judge_rise_fall-end-2
+slice_bounds-judge_rise_fall-end-2 g c = sym (length-replicate 524288 (pos 0))
