@@ -296,7 +296,7 @@ def main():
     quick = "--quick" in sys.argv
     archive = os.environ.get("BUZZLUMEN_ARCHIVE", os.path.join(ROOT, "target", "staticlib", "libbuzzlumen.a"))
     if not os.path.exists(archive):
-        subprocess.run(["rt", "staticlib", "buzzlumen"], cwd=ROOT, check=True, stdout=sys.stderr)
+        subprocess.run([os.path.join(ROOT, "tools", "build"), "--library"], check=True, stdout=sys.stderr)
     tools.need("cadical")
     dice = methods.Dice(SEED)
     with tempfile.TemporaryDirectory() as folder:

@@ -13,11 +13,11 @@ import re
 import subprocess
 import time
 
+from proving import ARCHIVE, PROGRAMS
+
 ROOT = pathlib.Path(__file__).resolve().parents[1]
 HERE = ROOT / "packaging"
-ARCHIVE = ROOT / "target/staticlib/libbuzzlumen.a"
 HOST = ROOT / "target/command/host"
-PROGRAMS = ("show_times", "show_formula", "check_refutation", "judge_delay")
 DEBIAN_START = "#!/usr/bin/python3 -IS"
 
 # What code that can be loaded at any address asks of the linker: calls and places relative to the code itself.

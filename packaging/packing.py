@@ -18,6 +18,8 @@ CONTENTS = HERE / "contents.txt"
 LIBRARY = {"deb": "lib/x86_64-linux-gnu", "tar": "lib"}
 DOCS = {"deb": "share/doc/buzzlumen", "tar": "."}
 SCRIPTS = ("postinst", "prerm")
+# A page for those who keep the tree, which says how it came from an older kit; no package holds it.
+FOR_THE_TREE = {"docs/PORT.md"}
 
 # A file of a package: its mode, or None for a link; where it stands; the file of the tree, or what the link names.
 Entry = namedtuple("Entry", "mode place source")
@@ -162,7 +164,7 @@ def to_be_packed():
     found = {"buzzlumen", "README.md", "LICENSE"}
     for folder, pattern in (("command/buzzlumen", "*.py"), ("include", "*.h"), ("docs", "*")):
         found |= {str(path.relative_to(ROOT)) for path in (ROOT / folder).rglob(pattern) if path.is_file()}
-    return found
+    return found - FOR_THE_TREE
 
 
 def forgotten(text=None):

@@ -2,15 +2,16 @@
 """Changes a definition, its code and its proofs together, and sees that a row of the proved table or a law refuses it.
 
 Such a change breaks no promise of a function: every function is still proved, of another definition. What refuses it is
-a row or a law that says the same thing in other words. Eight changes are tried:
+a row or a law that says the same thing in other words. Eight changes are tried, each in a copy of the tree, where the
+crates that it changes are proved again, up to the one that refuses:
 
-- four are edits that the kit's gate tries (`rt must-fail`, in crates/NAME/must-fail); here their logs are read;
-- four are too long for such an edit, or reach two crates: they are made here in a copy of the tree, and the crates are
-  proved again, up to the one that refuses;
+- four are edits that the kit's gate tries too, in crates/NAME/must-fail;
+- four are too long for such an edit, or reach two crates, and stand here;
 - one of these, 65,535 pairs for 65,536, is also compiled without proof, and a case of the comparison names it.
 
 Each is caught where every function is proved and every error stands in the files named here. Ends with 1 where one is
-not. Assumes that target/ is as `rt ci` leaves it, and works in temporary folders that it removes.
+not. What of the crates is proved already, here or in another copy of the tree on this machine, the kit begins with.
+Works in temporary folders that it removes.
 """
 
 import concurrent.futures
@@ -28,21 +29,21 @@ import planted
 
 ROOT = planted.ROOT
 
-# An edit of the kit's gate: what it changes, its crate and name, and the file of that crate in which it is refused.
-Edit = namedtuple("Edit", "name crate label file")
-
-EDITS = (
-    Edit("Largest is bounded for the vector of ones alone", "certificate", "largest_of_all_ones",
-         "proofs/LargestIs.antt"),
-    Edit("numbers 8 and 9 are exchanged", "refusal", "vector_and_room_exchanged", "specs/Edges.antt"),
-    Edit("over 99,999 variables are too many", "refute", "one_variable_less", "proofs/Edges.antt"),
-    Edit("a parity gate's clauses are in another order", "formula", "parity_clauses_exchanged", "specs/Edges.antt"),
-)
-
-# A change made here: what it changes, the crate and the files of rows in which it is refused, and each text that is
+# A change: what it changes, the crate and the files of that crate in which it is refused, and each text that is
 # replaced, wherever it stands in its file of crates/.
 Joint = namedtuple("Joint", "name crate files texts")
 Text = namedtuple("Text", "path old new")
+
+# One that is an edit of the kit's gate, by the edit's name.
+Edit = namedtuple("Edit", "name crate files label")
+
+EDITS = (
+    Edit("Largest is bounded for the vector of ones alone", "certificate", "proofs/LargestIs.antt",
+         "largest_of_all_ones"),
+    Edit("numbers 8 and 9 are exchanged", "refusal", "specs/Edges.antt", "vector_and_room_exchanged"),
+    Edit("over 99,999 variables are too many", "refute", "proofs/Edges.antt", "one_variable_less"),
+    Edit("a parity gate's clauses are in another order", "formula", "specs/Edges.antt", "parity_clauses_exchanged"),
+)
 
 LAST = "last_row (clauses_of refutation)"
 ROOM = "room_row (suc variables) room"
@@ -57,16 +58,15 @@ ROOM_FIRST = Joint("room for propagation is asked before LAST", "refute", "proof
     Text("refute/src/lib.rt", "match last_row(refutation) {", "match room_row(variables, room) {"),
     Text("refute/src/lib.rt", "            Checked::Passes => room_row(variables, room),",
          "            Checked::Passes => last_row(refutation),"),
-    Text("refute/proofs/Judging.antt", f"rest-passes ({LAST} ∷ []) ({ROOM} ∷ []) rest in", "rest in"),
-    Text("refute/proofs/Judging.antt", "(Room (suc variables)) [] roomy .0)", f"(Room (suc variables)) ({LAST} ∷ []) roomy .0)"),
     Text("refute/proofs/Judging.antt", LAST, "FIRST"),
     Text("refute/proofs/Judging.antt", ROOM, LAST),
     Text("refute/proofs/Judging.antt", "FIRST", ROOM),
-    Text("refute/proofs/Judging.antt", f"(Room (suc variables)) ({ROOM} ∷ []) roomy .0)",
-         f"(Room (suc variables)) ({LAST} ∷ []) roomy .0)"),
-    Text("refute/proofs/refutation_rows/Proof.antt", "last-row", "FIRST"),
-    Text("refute/proofs/refutation_rows/Proof.antt", "room-row", "last-row"),
-    Text("refute/proofs/refutation_rows/Proof.antt", "FIRST", "room-row"),
+    Text("refute/proofs/Judging.antt", f"rest-passes ({ROOM} ∷ []) ({LAST} ∷ []) rest in", "rest in"),
+    Text("refute/proofs/Judging.antt", "(Room (suc variables)) [] roomy).0",
+         f"(Room (suc variables)) ({LAST} ∷ []) roomy).0"),
+    Text("refute/proofs/refutation_rows/Answers.antt", "last_row", "FIRST"),
+    Text("refute/proofs/refutation_rows/Answers.antt", "room_row", "last_row"),
+    Text("refute/proofs/refutation_rows/Answers.antt", "FIRST", "room_row"),
 ))
 
 FEWER_PAIRS = Joint("more than 65,535 pairs are too many", "formula", "specs/Edges.antt specs/Apart.antt", (
@@ -85,104 +85,111 @@ TO_THE_END = Joint("a reader with no clause left goes to the end", "reader", "sp
     }
     at + length
 """),
-    Text("reader/proofs/next_from/Proof.antt", "use native.Mathlib.Omega.{arith}\n", """\
+    Text("reader/proofs/next_from/Answers.antt", "use native.Mathlib.Omega.{arith}\n", """\
 use native.Mathlib.Omega.{arith}
-use borrow.Author.Tests.{eq-eqb, ne-eqb}
+use borrow.Author.Tests.{eq-eqb, ne_eqb}
 """),
-    Text("reader/proofs/next_from/Proof.antt",
-         "c .length-from .ensures, L.within (c .before .args .list .now) (c .before .args .at)",
-         "c .before .length-from .ensures, L.within (c .before .before .args .list .now) (c .before .before .args .at)"),
-    Text("reader/proofs/next_from/Proof.antt", "returns c = search needs\n", """\
-returns c = rw (← c .before .length-from .ensures, eq-eqb _ _ (c .if1 .taken))
-
-returns-2 : tie.Need-returns-2
+    Text("reader/proofs/next_from/Answers.antt", "c.length_from.ensures", "c.length_from-length.ensures"),
+    Text("reader/proofs/next_from/Answers.antt", """\
+pub returns : goal.returns
 unfolding next_at
-returns-2 c = rw (← c .before .length-from .ensures, ne-eqb _ _ (c .if1 .left))
+returns c = search rules
+""", """\
+pub returns-then-length-eq0 : goal.returns-then-length-eq0
+unfolding next_at
+returns-then-length-eq0 c = rw (← c.length_from-length.ensures, eq-eqb _ _ c.if-length-eq0.true)
+
+pub returns : goal.returns
+unfolding next_at
+returns c = rw (← c.length_from-length.ensures, ne_eqb _ _ c.if-length-eq0.false)
 """),
-    Text("reader/proofs/next_from/Proof.antt", "add-result returns)", "returns add-result returns-2)"),
-    Text("reader/proofs/Agree.antt", "use lib.ListN.{length,", "use lib.ListN.{drop-of-length-le, length,"),
+    Text("reader/proofs/Agree.antt", "use lib.ListN.{length,", "use lib.ListN.{drop_of_length-le, length,"),
     Text("reader/proofs/Agree.antt", "  unfolding next_at length_at\n", "  unfolding next_at length_at parts_from\n"),
-    Text("reader/proofs/Agree.antt", "getD (left (at + n)) k []",
-         "getD (left (cond (eqb n 0) (length list) (at + n))) k []"),
+    Text("reader/proofs/Agree.antt", "get_or (left (at + n)) k []",
+         "get_or (left (cond (eqb n 0) (length list) (at + n))) k []"),
     Text("reader/proofs/Agree.antt", """\
-          ap (λ (m : ℕ). getD (left m) k []) (add-zero at)
-          ∙ ap (λ (ps : List (List ℤ)). getD ps k []) e
+          ap (λ (m : ℕ). get_or (left m) k []) (add-zero at)
+          ∙ ap (λ (ps : List (List ℤ)). get_or ps k []) e
 """, """\
-          ap (λ (zs : List ℤ). getD (parts zs) k []) (drop-of-length-le list {i = length list} (omega arith))
+          ap (λ (zs : List ℤ). get_or (parts zs) k []) (drop_of_length-le list {i = length list} (omega arith))
 """),
     Text("reader/proofs/Agree.antt", """\
-          ap (λ (zs : List ℤ). getD (parts zs) k []) (sym (drop-drop (suc n) at list))
+          ap (λ (zs : List ℤ). get_or (parts zs) k []) (sym (drop-drop (suc n) at list))
 """, """\
-          ap (λ (t : Bool). getD (left (cond t (length list) (at + suc n))) k []) (ne-eqb (suc n) 0 (λ q. omega arith))
-          ∙ ap (λ (zs : List ℤ). getD (parts zs) k []) (sym (drop-drop (suc n) at list))
+          ap (λ (t : Bool). get_or (left (cond t (length list) (at + suc n))) k []) (ne_eqb (suc n) 0 (λ q. omega arith))
+          ∙ ap (λ (zs : List ℤ). get_or (parts zs) k []) (sym (drop-drop (suc n) at list))
 """),
 ))
 
 JOINTS = (FEWER_PAIRS, NOR, ROOM_FIRST, TO_THE_END)
 
-# What of target/ says which crates are proved.
-PROVED = ("rlib", "stamp", "log", "obj", "bin")
 
-
-def against(said, *places):
+def against(said, status, places):
     """What a prover's words have against a change that is to be refused in these files alone; nothing where it is."""
-    errors = re.findall(r"^(\S+?):\d+:\d+: error", said, re.MULTILINE)
-    unproved = re.findall(r"^fn (\S+): (?!proved$)", said, re.MULTILINE)
+    if status != 1 or "\nlogic=not-proved" not in said:
+        return f"rt ends with {status}: {said[-200:]}"
+    unproved = re.findall(r"^(?:fn|struct|enum|impl|trait|const) (\S+): (?!proved$)", said, re.MULTILINE)
     if unproved:
         return "not proved: " + ", ".join(unproved)
+    errors = {os.path.normpath(path) for path in re.findall(r"^(\S+?):\d+:\d+: error", said, re.MULTILINE)}
     if not errors:
         return "nothing is refused"
-    elsewhere = sorted({error for error in errors if not error.endswith(tuple("/" + place for place in places))})
+    elsewhere = sorted(errors - set(places))
     return "also refused in " + ", ".join(elsewhere) if elsewhere else ""
 
 
-def try_edit(edit):
-    """What is wrong with an edit of the kit's gate, by its log."""
-    log = ROOT / "target/must-fail" / edit.crate / edit.label / ".log"
-    if not log.exists():
-        return f"no log: run `rt must-fail {edit.crate}` first"
-    return against(log.read_text(encoding="utf-8"), edit.file)
+def texts_of(edit):
+    """The texts that an edit of the kit's gate replaces."""
+    path, old, texts = None, None, []
+    for line in (ROOT / f"crates/{edit.crate}/must-fail/{edit.label}.edit").read_text(encoding="utf-8").splitlines():
+        word, _, rest = line.partition(": ")
+        if word == "file":
+            path = f"{edit.crate}/{rest}"
+        elif word == "old":
+            old = rest
+        elif word == "new":
+            texts.append(Text(path, old, rest))
+    return texts
 
 
-def change(joint, crates):
+def change(name, texts, crates):
     """Make a change in a copy of the crates."""
-    for text in joint.texts:
+    for text in texts:
         path = crates / text.path
         content = path.read_text(encoding="utf-8")
         if text.old not in content:
-            sys.exit(f"joint: {joint.name}: {text.path} has no {text.old!r}")
+            sys.exit(f"joint: {name}: {text.path} has no {text.old!r}")
         path.write_text(content.replace(text.old, text.new), encoding="utf-8")
 
 
-def copy_of_tree(folder):
-    """A copy of the tree with what is proved of it."""
-    shutil.copytree(ROOT / "crates", folder / "crates")
-    shutil.copy(ROOT / "crates.txt", folder)
-    for part in PROVED:
-        shutil.copytree(ROOT / "target" / part, folder / "target" / part)
+def copy_of_crates(folder):
+    """A copy of the crates, without what the kit keeps in them and without the edits; gives the folder of crates."""
+    shutil.copytree(ROOT / "crates", folder / "crates", ignore=shutil.ignore_patterns("out", "must-fail"))
+    for name in ("crates.txt", "HANDLES"):
+        if (ROOT / name).is_file():
+            shutil.copy(ROOT / name, folder)
+    return folder / "crates"
 
 
-def try_joint(joint):
-    """What is wrong with a change that is made here: the crates below its crate are proved, and it is not."""
+def tried(joint):
+    """What is wrong with a change: the crates below its crate are proved, and it is not."""
+    texts = texts_of(joint) if isinstance(joint, Edit) else joint.texts
     with tempfile.TemporaryDirectory() as name:
-        folder = pathlib.Path(name)
-        copy_of_tree(folder)
-        change(joint, folder / "crates")
-        environment = dict(os.environ, RT_JOBS="1")
-        ended = subprocess.run(["rt", "check", joint.crate], cwd=folder, env=environment, stdout=subprocess.PIPE,
-                               stderr=subprocess.STDOUT, text=True, check=False)
-    if not ended.stdout.rstrip().endswith("rt: FAILED: " + joint.crate):
-        return "rt ends with: " + ended.stdout[-200:]
-    return against(ended.stdout, *(f"crates/{joint.crate}/{file}" for file in joint.files.split()))
+        crates = copy_of_crates(pathlib.Path(name))
+        change(joint.name, texts, crates)
+        ended = subprocess.run(["rt", "check", "--jobs", "2"], cwd=crates / joint.crate, stdout=subprocess.PIPE,
+                               stderr=subprocess.STDOUT, text=True, errors="replace", check=False)
+    if " did not build, so nothing above it was checked" in ended.stdout:
+        return "a crate below is not proved: " + ended.stdout[-200:]
+    return against(ended.stdout, ended.returncode, joint.files.split())
 
 
 def named_by_comparison(joint, count):
     """What is wrong where the cases of so many pairs show no difference on the changed source."""
     number = cases.LADDER_ROUNDS[count]
     with tempfile.TemporaryDirectory() as copy, tempfile.TemporaryDirectory() as work:
-        crates = pathlib.Path(copy) / "crates"
-        shutil.copytree(ROOT / "crates", crates)
-        change(joint, crates)
+        crates = copy_of_crates(pathlib.Path(copy))
+        change(joint.name, joint.texts, crates)
         archive = planted.Compiler(pathlib.Path(work)).archive(crates)
         command = [sys.executable, ROOT / "tests/compare.py", "--archive", archive, "--round", str(number)]
         ended = subprocess.run(command, stdout=subprocess.PIPE, stderr=subprocess.STDOUT, text=True, check=False)
@@ -190,20 +197,20 @@ def named_by_comparison(joint, count):
     return "" if first and ended.returncode == 1 else "the comparison ends with: " + ended.stdout[-200:]
 
 
-def main():
-    """The status: 0 where each change is caught as it should be."""
+def main(names):
+    """The status: 0 where each change is caught as it should be; only those of the named crates, where any is named."""
     wrong = 0
     with concurrent.futures.ThreadPoolExecutor(2) as pool:
-        tried = [(edit.name, edit.crate, pool.submit(try_edit, edit)) for edit in EDITS]
-        tried += [(joint.name, joint.crate, pool.submit(try_joint, joint)) for joint in JOINTS]
-        tried.append((FEWER_PAIRS.name, "the comparison", pool.submit(named_by_comparison, FEWER_PAIRS, 65536)))
-        for name, where, found in tried:
-            complaint = found.result()
-            wrong += bool(complaint)
-            print(f"{name}: {complaint or 'caught by ' + where}", flush=True)
-    print(f"joint: {len(tried)} tried, {wrong} wrong")
+        found = [(joint.name, joint.crate, pool.submit(tried, joint)) for joint in (*JOINTS, *EDITS)
+                 if not names or joint.crate in names]
+        if not names:
+            found.append((FEWER_PAIRS.name, "the comparison", pool.submit(named_by_comparison, FEWER_PAIRS, 65536)))
+        for name, where, complaint in found:
+            wrong += bool(complaint.result())
+            print(f"{name}: {complaint.result() or 'caught by ' + where}", flush=True)
+    print(f"joint: {len(found)} tried, {wrong} wrong")
     return 1 if wrong else 0
 
 
 if __name__ == "__main__":
-    sys.exit(main())
+    sys.exit(main(sys.argv[1:]))

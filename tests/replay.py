@@ -7,7 +7,8 @@ A page marks what is replayed by its fences:
     ```c first.c        a fence with a second word is a file: it is written to the copy under that name
 
 A command line that ends in a backslash goes on in the next. Every other fence is only for reading. Each page gets a
-copy of its own: the whole tree, with what has been built in target/ linked into it. Where the machine is not x86-64,
+copy of its own: the whole tree, without what the kit keeps in out/ folders, and with what has been built in target/
+linked into it. Where the machine is not x86-64,
 `gcc` at a command's start is the cross compiler and a program in target/ is run under qemu, as README.md says.
 Assumes bash.
 """
@@ -25,7 +26,7 @@ from collections import namedtuple
 import tools
 
 ROOT = pathlib.Path(__file__).resolve().parents[1]
-NOT_COPIED = (".git", "target", "__pycache__")
+NOT_COPIED = (".git", "target", "out", "__pycache__")
 LONGEST_SECONDS = 600
 
 FENCE = re.compile(r"```(\S*)\s*(\S*)\s*$")

@@ -39,8 +39,8 @@ HEADER = "include/buzzlumen.h"
 SOURCES = ("command/host.c", "command/shorten.c", "command/shorten.h", HEADER)
 ARCHIVE = "target/staticlib/libbuzzlumen.a"
 BUILT = "target/command/host"
-REBUILD = "Build it by: rt staticlib buzzlumen"
-REBUILD_ANEW = "Build it anew by: rt staticlib buzzlumen"
+REBUILD = "Build it by: tools/build"
+REBUILD_ANEW = "Build it anew by: tools/build"
 
 
 class Refusal(Refused):

@@ -148,7 +148,7 @@ class Trouble(Asking):
         ended = subprocess.run([COMMAND[0], "-IS", tree / "buzzlumen", "times", A, "01"], capture_output=True,
                                text=True, check=False)
         self.assertEqual((ended.returncode, ended.stderr), (3, "buzzlumen: the library is not built yet: there is no "
-                         "target/staticlib/libbuzzlumen.a. Build it by: rt staticlib buzzlumen\n"))
+                         "target/staticlib/libbuzzlumen.a. Build it by: tools/build\n"))
         self.assertIn("which is no file", self.ask("times", A, "01", status=3,
                                                    env=self.environment(BUZZLUMEN_HOST="/no/host")).err)
         for content in ("#!/bin/sh\nexit 4\n", "#!/bin/sh\nexit 0\n", "nothing"):
@@ -172,7 +172,7 @@ class Trouble(Asking):
             ended = subprocess.run([COMMAND[0], "-IS", self.folder / "buzzlumen", "times", A, "01"],
                                    capture_output=True, text=True, check=False)
             self.assertEqual((ended.returncode, ended.stderr),
-                             (3, f"buzzlumen: {wanted}. Build it anew by: rt staticlib buzzlumen\n"))
+                             (3, f"buzzlumen: {wanted}. Build it anew by: tools/build\n"))
             self.assertFalse((self.folder / "target/command/host").exists())
 
     def archive_of(self, source):
@@ -204,8 +204,7 @@ class Trouble(Asking):
         ended = subprocess.run([COMMAND[0], "-IS", tree / "buzzlumen", "times", A, "01"], capture_output=True,
                                text=True, check=False)
         self.assertEqual((ended.returncode, ended.stderr), (3, "buzzlumen: the host program broke off: status -11; is "
-                         "target/staticlib/libbuzzlumen.a of this state of the tree? Build it anew by: rt staticlib "
-                         "buzzlumen\n"))
+                         "target/staticlib/libbuzzlumen.a of this state of the tree? Build it anew by: tools/build\n"))
 
     def test_installed(self):
         """Installed, the command finds its parts and its host in one folder, without the tree."""
