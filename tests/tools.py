@@ -21,6 +21,7 @@ LOADER = CROSS_LIBRARY + "/ld-linux-x86-64.so.2"
 
 PACKAGES = {
     "gcc": "gcc libc6-dev",
+    "readelf": "binutils",
     "cadical": "cadical",
     "picosat": "picosat",
     "valgrind": "valgrind",
