@@ -18,8 +18,8 @@ CONTENTS = HERE / "contents.txt"
 LIBRARY = {"deb": "lib/x86_64-linux-gnu", "tar": "lib"}
 DOCS = {"deb": "share/doc/buzzlumen", "tar": "."}
 SCRIPTS = ("postinst", "prerm")
-# A page for those who keep the tree, which says how it came from an older kit; no package holds it.
-FOR_THE_TREE = {"docs/PORT.md"}
+# Pages for those who keep the tree, which say how it came from an older kit and to its forms; no package holds them.
+FOR_THE_TREE = {"docs/DESIGN-PASS.md", "docs/PORT.md"}
 
 # A file of a package: its mode, or None for a link; where it stands; the file of the tree, or what the link names.
 Entry = namedtuple("Entry", "mode place source")

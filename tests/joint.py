@@ -55,24 +55,20 @@ NOR = Joint("a pin at 0 decides NOR", "settle", "specs/Edges.antt", (
 
 ROOM_FIRST = Joint("room for propagation is asked before LAST", "refute", "proofs/Edges.antt", (
     Text("refute/specs/Rows.antt", f"({LAST} ∷ {ROOM} ∷ [])", f"({ROOM} ∷ {LAST} ∷ [])"),
-    Text("refute/src/lib.rt", "match last_row(refutation) {", "match room_row(variables, room) {"),
-    Text("refute/src/lib.rt", "            Checked::Passes => room_row(variables, room),",
-         "            Checked::Passes => last_row(refutation),"),
+    Text("refute/src/lib.rt", "    last_row(refutation)?;\n    room_row(variables, room)\n",
+         "    room_row(variables, room)?;\n    last_row(refutation)\n"),
     Text("refute/proofs/Judging.antt", LAST, "FIRST"),
     Text("refute/proofs/Judging.antt", ROOM, LAST),
     Text("refute/proofs/Judging.antt", "FIRST", ROOM),
     Text("refute/proofs/Judging.antt", f"rest-passes ({ROOM} ∷ []) ({LAST} ∷ []) rest in", "rest in"),
     Text("refute/proofs/Judging.antt", "(Room (suc variables)) [] roomy).0",
          f"(Room (suc variables)) ({LAST} ∷ []) roomy).0"),
-    Text("refute/proofs/refutation_rows/Answers.antt", "last_row", "FIRST"),
-    Text("refute/proofs/refutation_rows/Answers.antt", "room_row", "last_row"),
-    Text("refute/proofs/refutation_rows/Answers.antt", "FIRST", "room_row"),
 ))
 
 FEWER_PAIRS = Joint("more than 65,535 pairs are too many", "formula", "specs/Edges.antt specs/Apart.antt", (
     Text("pairs/specs/Pairs.antt", "min (room / numbers) 65536", "min (room / numbers) 65535"),
-    Text("pairs/src/lib.rt", "smaller(numbers / 2, 65536)", "smaller(numbers / 2, 65535)"),
-    Text("pairs/src/lib.rt", "smaller(numbers / 3, 65536)", "smaller(numbers / 3, 65535)"),
+    Text("pairs/src/lib.rt", "(numbers / 2).min(65536)", "(numbers / 2).min(65535)"),
+    Text("pairs/src/lib.rt", "(numbers / 3).min(65536)", "(numbers / 3).min(65535)"),
 ))
 
 TO_THE_END = Joint("a reader with no clause left goes to the end", "reader", "specs/Edges.antt", (
@@ -85,25 +81,7 @@ TO_THE_END = Joint("a reader with no clause left goes to the end", "reader", "sp
     }
     at + length
 """),
-    Text("reader/proofs/next_from/Answers.antt", "use native.Mathlib.Omega.{arith}\n", """\
-use native.Mathlib.Omega.{arith}
-use borrow.Author.Tests.{eq-eqb, ne_eqb}
-"""),
-    Text("reader/proofs/next_from/Answers.antt", "c.length_from.ensures", "c.length_from-length.ensures"),
-    Text("reader/proofs/next_from/Answers.antt", """\
-pub returns : goal.returns
-unfolding next_at
-returns c = search rules
-""", """\
-pub returns-then-length-eq0 : goal.returns-then-length-eq0
-unfolding next_at
-returns-then-length-eq0 c = rw (← c.length_from-length.ensures, eq-eqb _ _ c.if-length-eq0.true)
-
-pub returns : goal.returns
-unfolding next_at
-returns c = rw (← c.length_from-length.ensures, ne_eqb _ _ c.if-length-eq0.false)
-"""),
-    Text("reader/proofs/Agree.antt", "use lib.ListN.{length,", "use lib.ListN.{drop_of_length-le, length,"),
+    Text("reader/proofs/Agree.antt", "Common.{length,", "Common.{drop_of_length-le, length,"),
     Text("reader/proofs/Agree.antt", "  unfolding next_at length_at\n", "  unfolding next_at length_at parts_from\n"),
     Text("reader/proofs/Agree.antt", "get_or (left (at + n)) k []",
          "get_or (left (cond (eqb n 0) (length list) (at + n))) k []"),

@@ -22,8 +22,8 @@ use Rattle.refusal.specs.declared.Refusal.TheVariants.{
   Fall,
 }
 use Rattle.refusal.specs.Table.{number_of}
-use Rattle.refusal.specs.declared.Checked.{Checked}
-use Rattle.refusal.specs.declared.Checked.TheVariants.{Passes, Refused}
+use Rattle.std.specs.Prelude.{Ok, Err}
+use Rattle.refusal.specs.Rows.{Checked}
 use Rattle.buzzlumen.specs.Answers.{checked_of}
 
 -- a refusal's number is not 0
@@ -47,6 +47,6 @@ numbered (Arrival n) e = omega arith
 numbered (Fall n) e = omega arith
 
 -- the answer whose number is 0
-pub only-accepted : (answer : Checked) → (checked_of answer).number ≡ 0 → answer ≡ Passes
-only-accepted Passes e = refl
-only-accepted (Refused refusal) e = absurd (numbered refusal e)
+pub only-accepted : (answer : Checked) → (checked_of answer).number ≡ 0 → answer ≡ Ok tt
+only-accepted (Ok tt) e = refl
+only-accepted (Err refusal) e = absurd (numbered refusal e)

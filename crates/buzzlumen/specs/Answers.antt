@@ -2,15 +2,13 @@
 -- then every other field is 0. Interface: all of it.
 use Rattle.std.specs.Prelude.{◌≡◌, List, ℕ, ◌<◌, ℤ}
 use Rattle.refusal.specs.Table.{number_of, place_of}
-use Rattle.settle.specs.declared.Settled.{Settled}
-use Rattle.settle.specs.declared.Settled.TheVariants.{At, Refused as Unsettled}
-use Rattle.refusal.specs.declared.Checked.{Checked}
-use Rattle.refusal.specs.declared.Checked.TheVariants.{Passes, Refused}
+use Rattle.std.specs.Prelude.{Result, Ok, Err}
+use Rattle.refusal.specs.Rows.{Checked}
+use Rattle.refusal.specs.declared.Refusal.{Refusal}
+use Rattle.formula.specs.declared.Counts.{Counts}
 use Rattle.netlist.specs.Netlist.{Slopes}
 use Rattle.netlist.specs.File.{circuit_of}
 use Rattle.settle.specs.Promise.{Evaluation}
-use Rattle.formula.specs.declared.Built.{Built}
-use Rattle.formula.specs.declared.Built.TheVariants.{Formula, Refused as Unbuilt}
 use Rattle.formula.specs.Promise.{Building}
 use Rattle.certificate.specs.Largest.{Largest}
 use Rattle.certificate.specs.Promise.{Rooms, Judges, leaving}
@@ -19,9 +17,9 @@ use Rattle.buzzlumen.specs.declared.Formed.{Formed}
 use Rattle.buzzlumen.specs.declared.Answer.{Answer}
 
 -- the answer of an evaluation
-abbrev pub evaluated_of : Settled → Evaluated
-evaluated_of (At time) = record { number = 0; time = time; place = 0 }
-evaluated_of (Unsettled refusal) = record { number = number_of refusal; time = 0; place = place_of refusal }
+abbrev pub evaluated_of : Result ℕ Refusal → Evaluated
+evaluated_of (Ok time) = record { number = 0; time = time; place = 0 }
+evaluated_of (Err refusal) = record { number = number_of refusal; time = 0; place = place_of refusal }
 
 -- an evaluation's answer as numbers, and what it leaves in the lent slices
 pub record Evaluates (promised : Evaluation) (numbers : Evaluated) (values times : List ℕ) : Type 0 where
@@ -31,8 +29,8 @@ pub record Evaluates (promised : Evaluation) (numbers : Evaluated) (values times
 
 -- the answer of a check, or of a certificate call
 abbrev pub checked_of : Checked → Answer
-checked_of Passes = record { number = 0; place = 0 }
-checked_of (Refused refusal) = record { number = number_of refusal; place = place_of refusal }
+checked_of (Ok _) = record { number = 0; place = 0 }
+checked_of (Err refusal) = record { number = number_of refusal; place = place_of refusal }
 
 -- the numbers of the check's answer, of which `Promised` holds
 pub record Says (Promised : Checked → Type 0) (numbers : Answer) : Type 0 where
@@ -41,8 +39,8 @@ pub record Says (Promised : Checked → Type 0) (numbers : Answer) : Type 0 wher
   pub is : numbers ≡ checked_of answer
 
 -- the answer of a building call
-abbrev pub formed_of : Built → Formed
-formed_of (Formula counts) =
+abbrev pub formed_of : Result Counts Refusal → Formed
+formed_of (Ok counts) =
     record {
       number = 0;
       variables = counts.variables;
@@ -51,7 +49,7 @@ formed_of (Formula counts) =
       numbers = counts.numbers;
       pairs = counts.pairs;
     }
-formed_of (Unbuilt refusal) =
+formed_of (Err refusal) =
     record { number = number_of refusal; variables = 0; place = place_of refusal; clauses = 0; numbers = 0; pairs = 0 }
 
 -- a building call's answer as numbers, and what it leaves in the lent slices
@@ -61,9 +59,9 @@ pub record Builds (promised : Building) (numbers : Formed) (pairs : List ℕ) (f
   pub formula-is : formula ≡ promised.formula
 
 -- the variables of an answer fit 32 bits; every answer of a building call is so (proofs/Small)
-abbrev pub Small : Built → Type 0
-Small (Formula counts) = counts.variables < 4294967296
-Small (Unbuilt refusal) = Unit {0}
+abbrev pub Small : Result Counts Refusal → Type 0
+Small (Ok counts) = counts.variables < 4294967296
+Small (Err refusal) = Unit {0}
 
 -- the numbers of a certificate call's answer and what it leaves in the lent slices; number 0 means that the delay is
 -- the largest settling time

@@ -19,13 +19,13 @@ ghost use Rattle.buzzlumen.specs.Answers.{
 };
 ghost use Rattle.netlist.specs.Netlist.{alike, apart};
 
-use formula::Built;
-use refusal::Checked;
-use settle::Settled;
+use formula::Counts;
+use netlist::Form;
+use refusal::Refusal;
 
 // The answer of an evaluation.
 #[repr(C)]
-#[derive(Clone, Copy)]
+#[derive(Clone, Copy, Debug, PartialEq, Eq)]
 pub struct Evaluated {
     pub number: u32,
     pub time: u32,
@@ -34,7 +34,7 @@ pub struct Evaluated {
 
 // The answer of a building call.
 #[repr(C)]
-#[derive(Clone, Copy)]
+#[derive(Clone, Copy, Debug, PartialEq, Eq)]
 pub struct Formed {
     pub number: u32,
     pub variables: u32,
@@ -46,68 +46,74 @@ pub struct Formed {
 
 // The answer of a check or of a certificate call: 0 or a refusal's number, and its place.
 #[repr(C)]
-#[derive(Clone, Copy)]
+#[derive(Clone, Copy, Debug, PartialEq, Eq)]
 pub struct Answer {
     pub number: u32,
     pub place: u64,
 }
 
-// The numbers of an evaluation's answer.
-fn numbers_of_settled(answer: Settled) -> Evaluated
-    ensures { result ≡ evaluated_of answer }
-{
-    match answer {
-        Settled::At(time) => Evaluated {
-            number: 0,
-            time: time,
-            place: 0,
-        },
-        Settled::Refused(refusal) => Evaluated {
-            number: refusal::number(refusal),
-            time: 0,
-            place: refusal::place(refusal) as u64,
-        },
+impl From<Result<u32, Refusal>> for Evaluated {
+    ghost from_gives = { λ answer numbers. numbers ≡ evaluated_of answer };
+
+    // The numbers of an evaluation's answer.
+    fn from(answer: Result<u32, Refusal>) -> Evaluated {
+        match answer {
+            Ok(time) => Evaluated {
+                number: 0,
+                time,
+                place: 0,
+            },
+            Err(refusal) => Evaluated {
+                number: refusal.number(),
+                time: 0,
+                place: refusal.place() as u64,
+            },
+        }
     }
 }
 
-// The numbers of the answer of a check or of a certificate call.
-fn numbers_of_checked(answer: Checked) -> Answer
-    ensures { result ≡ checked_of answer }
-{
-    match answer {
-        Checked::Passes => Answer {
-            number: 0,
-            place: 0,
-        },
-        Checked::Refused(refusal) => Answer {
-            number: refusal::number(refusal),
-            place: refusal::place(refusal) as u64,
-        },
+impl From<Result<(), Refusal>> for Answer {
+    ghost from_gives = { λ answer numbers. numbers ≡ checked_of answer };
+
+    // The numbers of the answer of a check or of a certificate call.
+    fn from(answer: Result<(), Refusal>) -> Answer {
+        match answer {
+            Ok(()) => Answer {
+                number: 0,
+                place: 0,
+            },
+            Err(refusal) => Answer {
+                number: refusal.number(),
+                place: refusal.place() as u64,
+            },
+        }
     }
 }
 
-// The numbers of a building call's answer.
-fn numbers_of_built(answer: Built) -> Formed
-    requires { Small answer }
-    ensures { result ≡ formed_of answer }
-{
-    match answer {
-        Built::Formula(counts) => Formed {
-            number: 0,
-            variables: counts.variables as u32,
-            place: 0,
-            clauses: counts.clauses as u64,
-            numbers: counts.numbers as u64,
-            pairs: counts.pairs as u64,
-        },
-        Built::Refused(refusal) => Formed {
-            number: refusal::number(refusal),
-            variables: 0,
-            place: refusal::place(refusal) as u64,
-            clauses: 0,
-            numbers: 0,
-            pairs: 0,
-        },
+impl Formed {
+    // The numbers of a building call's answer. No `From`: that could not ask that the variables fit 32 bits.
+    fn of(answer: Result<Counts, Refusal>) -> Formed
+        requires { Small answer }
+        ensures { result ≡ formed_of answer }
+    {
+        match answer {
+            Ok(counts) => Formed {
+                number: 0,
+                variables: counts.variables as u32,
+                place: 0,
+                clauses: counts.clauses as u64,
+                numbers: counts.numbers as u64,
+                pairs: counts.pairs as u64,
+            },
+            Err(refusal) => Formed {
+                number: refusal.number(),
+                variables: 0,
+                place: refusal.place() as u64,
+                clauses: 0,
+                numbers: 0,
+                pairs: 0,
+            },
+        }
     }
 }
 
@@ -122,7 +128,7 @@ pub fn buzzlumen_evaluate(
     ensures { Evaluates (evaluation netlist.now arrivals.now alike vector.now
         (length values.old) (length times.old)) result values.new times.new }
 {
-    numbers_of_settled(settle::evaluate(netlist, arrivals, vector, values, times))
+    Evaluated::from(settle::evaluate(netlist, arrivals, Form::Single, vector, values, times))
 }
 
 // The formula that says that some output settles at the target or later.
@@ -136,7 +142,7 @@ pub fn buzzlumen_build(
     ensures { Builds (building netlist.now arrivals.now alike target (length pairs.old)
         (length formula.old)) result pairs.new formula.new }
 {
-    numbers_of_built(formula::build(netlist, arrivals, target, pairs, formula))
+    Formed::of(formula::build(netlist, arrivals, Form::Single, target, pairs, formula))
 }
 
 // Whether each clause of a refutation follows.
@@ -149,7 +155,7 @@ pub fn buzzlumen_check<'a>(
     ensures says { Says (Checks variables formula.now refutation.now (length propagation.old)) result }
     ensures propagation_after { propagation.new ≡ replicate (length propagation.old) 0 }
 {
-    numbers_of_checked(refute::check(variables, formula, refutation, propagation))
+    Answer::from(refute::check(variables, formula, refutation, propagation))
 }
 
 // Whether a delay is the circuit's largest settling time by this certificate.
@@ -171,9 +177,10 @@ pub fn buzzlumen_judge(
         propagation.old)
         values.new times.new pairs.new formula.new propagation.new result }
 {
-    numbers_of_checked(certificate::judge(
+    Answer::from(certificate::judge(
         netlist,
         arrivals,
+        Form::Single,
         delay,
         vector,
         refutation,
@@ -185,7 +192,7 @@ pub fn buzzlumen_judge(
     ))
 }
 
-// ---- gates whose delays of rise and fall stand apart
+// ---- gates whose delays of rise and fall stand apart: calls of their own, by the names that C knows
 
 // Values and times of all nodes under a vector, by the delays for each gate's final value.
 pub fn buzzlumen_evaluate_rise_fall(
@@ -200,7 +207,8 @@ pub fn buzzlumen_evaluate_rise_fall(
         vector.now (length values.old) (length times.old)) result
         values.new times.new }
 {
-    numbers_of_settled(settle::evaluate_rise_fall(netlist, arrivals, falls, vector, values, times))
+    let form = Form::RiseFall(falls);
+    Evaluated::from(settle::evaluate(netlist, arrivals, form, vector, values, times))
 }
 
 // The formula that says that some output settles at the target or later, by these delays.
@@ -215,7 +223,8 @@ pub fn buzzlumen_build_rise_fall(
     ensures { Builds (building netlist.now arrivals.now (apart falls.now) target
         (length pairs.old) (length formula.old)) result pairs.new formula.new }
 {
-    numbers_of_built(formula::build_rise_fall(netlist, arrivals, falls, target, pairs, formula))
+    let form = Form::RiseFall(falls);
+    Formed::of(formula::build(netlist, arrivals, form, target, pairs, formula))
 }
 
 // Whether the delay that is claimed is the circuit's largest settling time by this certificate, by these delays.
@@ -238,10 +247,10 @@ pub fn buzzlumen_judge_rise_fall(
         propagation.old)
         values.new times.new pairs.new formula.new propagation.new result }
 {
-    numbers_of_checked(certificate::judge_rise_fall(
+    Answer::from(certificate::judge(
         netlist,
         arrivals,
-        falls,
+        Form::RiseFall(falls),
         claimed,
         vector,
         refutation,

@@ -90,7 +90,7 @@ pub extern "C" fn buzzlumen_judge(
     )
 }
 
-// ---- gates whose delays of rise and fall stand apart
+// ---- gates whose delays of rise and fall stand apart: calls of their own, by the names that C knows
 
 // Values and times of all nodes under a vector, by the delays for each gate's final value.
 #[unsafe(no_mangle)]

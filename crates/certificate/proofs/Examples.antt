@@ -41,8 +41,8 @@ use Rattle.netlist.specs.Example.{circuit_a}
 use Rattle.settle.specs.Settling.{gate_value, settles, grow, values_of, times_of, tops_of, circuit_time}
 use Rattle.settle.specs.Promise.{given_rows}
 use Rattle.clauses.specs.Clauses.{flat, clauses_from, clauses_of}
-use Rattle.refusal.specs.declared.Checked.{Checked}
-use Rattle.refusal.specs.declared.Checked.TheVariants.{Passes, Refused}
+use Rattle.std.specs.Prelude.{Ok, Err}
+use Rattle.refusal.specs.Rows.{Checked}
 use Rattle.refusal.specs.Rows.{checked, unless_refused}
 use Rattle.refute.specs.Passes.{is_true, is_free, assign, say, pass, refutes, assert, follows, verdict}
 use Rattle.refute.specs.Rows.{refutation_form, first_beyond, ended, last_row, first_empty}
@@ -65,7 +65,7 @@ use Rattle.certificate.proofs.Granted.{rows-admit, judges-largest}
 -- what the rows and the computed verdict come to
 abbrev pub checked_to : List ℕ → List ℕ → Slopes → ℕ → List ℕ → List ℤ → Rooms → Checked
 checked_to file arrivals slopes delay vector refutation rooms =
-    unless_refused (checked (rows_over file arrivals slopes (certificate_rows delay vector refutation rooms))) Refused
+    unless_refused (checked (rows_over file arrivals slopes (certificate_rows delay vector refutation rooms))) Err
     (answer_of
     (verdict (suc (counts_for (circuit_of file arrivals slopes) (suc delay)).variables)
     (clauses_of (numbers_for (circuit_of file arrivals slopes) (suc delay))) (clauses_of refutation)))
@@ -104,12 +104,12 @@ judgement-exists file arrivals slopes delay vector refutation rooms =
         checked (rows_over file arrivals slopes (certificate_rows delay vector refutation rooms)) ≡ rows →
         Judges file arrivals slopes delay vector refutation rooms
         (judgement_of circuit delay vector rooms
-        (unless_refused rows Refused
+        (unless_refused rows Err
         (answer_of
         (verdict (suc (counts_for circuit (suc delay)).variables) (clauses_of (numbers_for circuit (suc delay)))
         (clauses_of refutation)))))
-    go (Refused refusal) e = record { answer = Refused refusal; answers = malformed e; meets = itself }
-    go Passes e =
+    go (Err refusal) e = record { answer = Err refusal; answers = malformed e; meets = itself }
+    go (Ok tt) e =
         let a = rows-admit file arrivals slopes (certificate_rows delay vector refutation rooms) e in
         let p = certificate-passes circuit delay vector refutation rooms a.1 in
         let few = pairs-fit circuit (suc delay) rooms.pairs rooms.formula p.building in
@@ -134,8 +134,8 @@ judgement-exists file arrivals slopes delay vector refutation rooms =
 judgement-answer : (circuit : Circuit) (delay : ℕ) (vector : List ℕ) (rooms : Rooms) (answer : Checked) →
     (judgement_of circuit delay vector rooms answer).answer ≡ answer
 unfolding certified
-judgement-answer circuit delay vector rooms Passes = refl
-judgement-answer circuit delay vector rooms (Refused refusal) = refl
+judgement-answer circuit delay vector rooms (Ok tt) = refl
+judgement-answer circuit delay vector rooms (Err refusal) = refl
 
 abbrev pub answer_to : Case → Checked
 answer_to c = checked_to c.file c.arrivals c.slopes c.delay c.vector c.refutation c.rooms

@@ -1,6 +1,6 @@
 -- The promise of judge implies the theorem: where the answer is that the certificate passes, the rows before 14 passed
--- and the refutation's verdict is that it passes, so the delay is the largest settling time. Laws: judged-passes,
--- certificate-largest, slopes-pass, rows-admit, judges-largest. Assumes nothing.
+-- and the refutation's verdict is that it passes, so the delay is the largest settling time. Laws: certificate-largest,
+-- slopes-pass, rows-admit, answers-largest, judges-largest. Assumes nothing.
 use mathlib.Core.Path.{◌≡◌, refl, sym, ◌∙◌}
 use mathlib.Core.List.{List, ◌++◌}
 use Prim.Native.Nat.{ℕ, suc}
@@ -8,8 +8,8 @@ use native.Mathlib.Omega.{arith}
 use lib.Dec.{T, eqb}
 use lib.IntN.{ℤ}
 use lib.ListN.{length-map}
-use Rattle.refusal.specs.declared.Checked.{Checked}
-use Rattle.refusal.specs.declared.Checked.TheVariants.{Passes, Refused}
+use Rattle.std.specs.Prelude.{Ok, Err}
+use Rattle.refusal.specs.Rows.{Checked}
 use Rattle.refusal.specs.Rows.{Row, checked}
 use Rattle.refusal.proofs.Rows.{first_passes, rest-passes}
 use Rattle.netlist.specs.declared.Shape.{Shape}
@@ -32,28 +32,17 @@ use Rattle.certificate.proofs.Passing.{certificate-passes, refutation-passes}
 
 -- an answer that is a pass: the rows passed, and so did the refutation
 passes-both : {rows : List Row} {answer : Checked} {stored refutation : List (List Literal)} →
-    Answers rows stored refutation answer → answer ≡ Passes →
-    (checked rows ≡ Passes) × Judged stored refutation passes
+    Answers rows stored refutation answer → answer ≡ Ok tt →
+    (checked rows ≡ Ok tt) × Judged stored refutation passes
 passes-both (malformed e) p = let w : ◌≡◌ {A = ℕ} 0 1 = cc in absurd (omega arith)
 passes-both (passed e verdict) p = (e, verdict)
 passes-both (stopped e verdict) p = let w : ◌≡◌ {A = ℕ} 0 1 = cc in absurd (omega arith)
 
 -- a judgement that passes is of a pass
 answer-passes : (circuit : Circuit) (delay : ℕ) (vector : List ℕ) (rooms : Rooms) (answer : Checked) →
-    (judgement_of circuit delay vector rooms answer).answer ≡ Passes → answer ≡ Passes
-answer-passes circuit delay vector rooms Passes e = refl
-answer-passes circuit delay vector rooms (Refused refusal) e = let w : ◌≡◌ {A = ℕ} 0 1 = cc in absurd (omega arith)
-
--- where the answer is a pass, the rows passed, and so did the refutation
-pub judged-passes : {file arrivals : List ℕ} {slopes : Slopes} {delay : ℕ} {vector : List ℕ} {refutation : List ℤ}
-    {rooms : Rooms} {result : Judgement} → Judges file arrivals slopes delay vector refutation rooms result →
-    result.answer ≡ Passes →
-    (checked (rows_over file arrivals slopes (certificate_rows delay vector refutation rooms)) ≡ Passes)
-    × Judged (clauses_of (numbers_for (circuit_of file arrivals slopes) (suc delay))) (clauses_of refutation) passes
-judged-passes {file} {arrivals} {slopes} {delay} {vector} {refutation} {rooms} d e =
-    passes-both d.answers
-    (answer-passes (circuit_of file arrivals slopes) delay vector rooms d.answer
-    (sym d.meets.answer-is ∙ e))
+    (judgement_of circuit delay vector rooms answer).answer ≡ Ok tt → answer ≡ Ok tt
+answer-passes circuit delay vector rooms (Ok tt) e = refl
+answer-passes circuit delay vector rooms (Err refusal) e = let w : ◌≡◌ {A = ℕ} 0 1 = cc in absurd (omega arith)
 
 -- what the rows of a file, its arrivals and its slopes leave of a circuit: a valid netlist, with an arrival for each
 -- input and small delays
@@ -64,7 +53,7 @@ pub record Admitted (circuit : Circuit) : Type 0 where
 
 -- of such a circuit: the rows and the refutation passed, so the delay is the largest settling time
 pub certificate-largest : (circuit : Circuit) → Admitted circuit → (delay : ℕ) (vector : List ℕ) (refutation : List ℤ)
-    (rooms : Rooms) → checked (certificate_rows delay vector refutation rooms circuit) ≡ Passes →
+    (rooms : Rooms) → checked (certificate_rows delay vector refutation rooms circuit) ≡ Ok tt →
     Judged (clauses_of (numbers_for circuit (suc delay))) (clauses_of refutation) passes → Largest circuit delay
 certificate-largest circuit a delay vector refutation rooms e verdict =
     let p = certificate-passes circuit delay vector refutation rooms e in
@@ -73,7 +62,7 @@ certificate-largest circuit a delay vector refutation rooms e verdict =
     (refutation-passes (counts_for circuit (suc delay)).variables refutation rooms.propagation p.testing)
 
 -- slopes that pass row 19 have a small delay for each pin
-pub slopes-pass : (shape : Shape) (slopes : Slopes) → checked (slope_rows shape.pins slopes) ≡ Passes →
+pub slopes-pass : (shape : Shape) (slopes : Slopes) → checked (slope_rows shape.pins slopes) ≡ Ok tt →
     Sloped shape slopes
 slopes-pass shape alike e = tt
 slopes-pass shape (apart falls) e = falls-pass shape falls e
@@ -84,8 +73,8 @@ slopes-small shape (apart falls) s = s.1
 
 -- what passes the rows 1 to 7, 16 and 19 is such a circuit, and the rows behind them pass
 pub rows-admit : (file arrivals : List ℕ) (slopes : Slopes) (rows : Circuit → List Row) →
-    checked (rows_over file arrivals slopes rows) ≡ Passes →
-    Admitted (circuit_of file arrivals slopes) × (checked (rows (circuit_of file arrivals slopes)) ≡ Passes)
+    checked (rows_over file arrivals slopes rows) ≡ Ok tt →
+    Admitted (circuit_of file arrivals slopes) × (checked (rows (circuit_of file arrivals slopes)) ≡ Ok tt)
 rows-admit file arrivals slopes rows e =
     let own = rows (circuit_of file arrivals slopes) in
     let sloping = slope_rows (shape_of file).pins slopes in
@@ -102,10 +91,20 @@ rows-admit file arrivals slopes rows e =
     )
 
 -- of any bytes: a pass means the largest settling time
-pub judges-largest : {file arrivals : List ℕ} {slopes : Slopes} {delay : ℕ} {vector : List ℕ} {refutation : List ℤ}
-    {rooms : Rooms} {result : Judgement} → Judges file arrivals slopes delay vector refutation rooms result →
-    result.answer ≡ Passes → Largest (circuit_of file arrivals slopes) delay
-judges-largest {file} {arrivals} {slopes} {delay} {vector} {refutation} {rooms} d e =
-    let both = judged-passes d e in
+pub answers-largest : (file arrivals : List ℕ) (slopes : Slopes) (delay : ℕ) (vector : List ℕ) (refutation : List ℤ)
+    (rooms : Rooms) {answer : Checked} →
+    Answers (rows_over file arrivals slopes (certificate_rows delay vector refutation rooms))
+    (clauses_of (numbers_for (circuit_of file arrivals slopes) (suc delay))) (clauses_of refutation) answer →
+    answer ≡ Ok tt → Largest (circuit_of file arrivals slopes) delay
+answers-largest file arrivals slopes delay vector refutation rooms d e =
+    let both = passes-both d e in
     let a = rows-admit file arrivals slopes (certificate_rows delay vector refutation rooms) both.0 in
     certificate-largest (circuit_of file arrivals slopes) a.0 delay vector refutation rooms a.1 both.1
+
+-- the same by the judgement
+pub judges-largest : {file arrivals : List ℕ} {slopes : Slopes} {delay : ℕ} {vector : List ℕ} {refutation : List ℤ}
+    {rooms : Rooms} {result : Judgement} → Judges file arrivals slopes delay vector refutation rooms result →
+    result.answer ≡ Ok tt → Largest (circuit_of file arrivals slopes) delay
+judges-largest {file} {arrivals} {slopes} {delay} {vector} {refutation} {rooms} d e =
+    answers-largest file arrivals slopes delay vector refutation rooms d.answers
+    (answer-passes (circuit_of file arrivals slopes) delay vector rooms d.answer (sym d.meets.answer-is ∙ e))

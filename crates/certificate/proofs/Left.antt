@@ -10,8 +10,8 @@ use lib.Dec.{T}
 use lib.IntN.{ℤ}
 use lib.ListN.{length, take}
 use Rattle.settle.proofs.Nodes.{Arrives}
-use Rattle.refusal.specs.declared.Checked.{Checked}
-use Rattle.refusal.specs.declared.Checked.TheVariants.{Passes, Refused}
+use Rattle.std.specs.Prelude.{Ok, Err}
+use Rattle.refusal.specs.Rows.{Checked}
 use Rattle.refusal.specs.Rows.{checked, unless_refused}
 use Rattle.netlist.specs.Netlist.{valid, Circuit, Slopes}
 use Rattle.netlist.specs.File.{circuit_of}
@@ -19,7 +19,6 @@ use Rattle.netlist.specs.Open.{rows_over}
 use Rattle.netlist.specs.Holds.{Small}
 use Rattle.clauses.specs.Clauses.{Literal, clauses_of}
 use Rattle.formula.specs.declared.Counts.{Counts}
-use Rattle.formula.specs.declared.Built.TheVariants.{Formula}
 use Rattle.formula.specs.Promise.{numbers_for, Building, refused, built, building_rows, building}
 use Rattle.formula.proofs.Answers.{passed-built}
 use Rattle.certificate.specs.Demand.{Completes, some_late}
@@ -41,9 +40,9 @@ demand-of-numbers circuit ok as_many small target vector as_long =
 
 -- a building that answers with counts passed its rows, and is that of the circuit
 built-passed : (file arrivals : List ℕ) (slopes : Slopes) (target pairs_room formula_room : ℕ) (counts : Counts) →
-    (building file arrivals slopes target pairs_room formula_room).answer ≡ Formula counts →
+    (building file arrivals slopes target pairs_room formula_room).answer ≡ Ok counts →
     (checked (rows_over file arrivals slopes (λ circuit. building_rows circuit target pairs_room formula_room))
-    ≡ Passes)
+    ≡ Ok tt)
     × (building file arrivals slopes target pairs_room formula_room
     ≡ built (circuit_of file arrivals slopes) target pairs_room formula_room)
 unfolding building
@@ -53,15 +52,15 @@ built-passed file arrivals slopes target pairs_room formula_room counts f =
     whole : Building
     whole = built (circuit_of file arrivals slopes) target pairs_room formula_room
 
-    go : (c : Checked) → (unless_refused c (refused pairs_room formula_room) whole).answer ≡ Formula counts →
-        (c ≡ Passes) × (unless_refused c (refused pairs_room formula_room) whole ≡ whole)
-    go Passes e = (refl, refl)
-    go (Refused refusal) e = let w : ◌≡◌ {A = ℕ} 0 1 = cc in absurd (omega arith)
+    go : (c : Checked) → (unless_refused c (refused pairs_room formula_room) whole).answer ≡ Ok counts →
+        (c ≡ Ok tt) × (unless_refused c (refused pairs_room formula_room) whole ≡ whole)
+    go (Ok tt) e = (refl, refl)
+    go (Err refusal) e = let w : ◌≡◌ {A = ℕ} 0 1 = cc in absurd (omega arith)
 
--- of what `build` and `build_rise_fall` answer and leave, for any bytes
+-- of what `build` answers and leaves, for any bytes
 pub demand-of-build : (file arrivals : List ℕ) (slopes : Slopes) (target pairs_room formula_room : ℕ)
     (counts : Counts) →
-    (building file arrivals slopes target pairs_room formula_room).answer ≡ Formula counts →
+    (building file arrivals slopes target pairs_room formula_room).answer ≡ Ok counts →
     (vector : List Bool) → length vector ≡ (circuit_of file arrivals slopes).net.inputs →
     Completes (circuit_of file arrivals slopes).net vector
     (clauses_of (take counts.numbers (building file arrivals slopes target pairs_room formula_room).formula))

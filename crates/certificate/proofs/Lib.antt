@@ -2,7 +2,7 @@
 -- rails and pairs), Complete and Sound (demand 3 from these facts, in both directions), Demand (demand 3 of a valid
 -- circuit), Variables (which variables occur), Numbers (the formula as numbers), LargestIs (a circuit has one largest
 -- settling time), Accepted (an accepted delay is it), Passing (what it says that a row passes), Granted (the promise
--- of judge implies the theorem), Steps (how the parts of a call make the judgement), Left (demand 3 of what build
+-- of judge implies the theorem), Steps (how the checks of a call make its answer), Left (demand 3 of what build
 -- leaves), Unique (one judgement), Examples and Edges (the table's certificate calls), Table (the one statement over
 -- all rows).
 pub mod Says

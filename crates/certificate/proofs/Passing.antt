@@ -11,7 +11,7 @@ use lib.IntN.{ℤ}
 use lib.ListN.{length}
 use borrow.Author.Tests.{eqb-true}
 use Rattle.refusal.specs.declared.Refusal.TheVariants.{Witness, Last}
-use Rattle.refusal.specs.declared.Checked.TheVariants.{Passes}
+use Rattle.std.specs.Prelude.{Ok}
 use Rattle.refusal.specs.Rows.{Row, checked, room_row}
 use Rattle.refusal.proofs.Rows.{passed-by, first_passes, rest-passes}
 use Rattle.netlist.specs.Netlist.{Circuit}
@@ -29,12 +29,12 @@ pub record Passing (circuit : Circuit) (delay : ℕ) (vector : List ℕ) (refuta
   where
     pub long : length vector ≡ circuit.net.inputs
     pub settles : circuit_time circuit (bits vector) ≡ delay
-    pub building : checked (building_rows circuit (suc delay) rooms.pairs rooms.formula) ≡ Passes
+    pub building : checked (building_rows circuit (suc delay) rooms.pairs rooms.formula) ≡ Ok tt
     pub testing :
-        checked (refutation_rows (counts_for circuit (suc delay)).variables refutation rooms.propagation) ≡ Passes
+        checked (refutation_rows (counts_for circuit (suc delay)).variables refutation rooms.propagation) ≡ Ok tt
 
 pub certificate-passes : (circuit : Circuit) (delay : ℕ) (vector : List ℕ) (refutation : List ℤ) (rooms : Rooms) →
-    checked (certificate_rows delay vector refutation rooms circuit) ≡ Passes → Passing circuit delay vector refutation
+    checked (certificate_rows delay vector refutation rooms circuit) ≡ Ok tt → Passing circuit delay vector refutation
     rooms
 certificate-passes circuit delay vector refutation rooms e =
     let evaluating = evaluation_rows circuit vector rooms.values rooms.times in
@@ -60,7 +60,7 @@ first-empty ([] ∷ clauses) h = Memᴰ.head refl
 first-empty ((l ∷ c) ∷ clauses) h = Memᴰ.tail (first-empty clauses (omega arith))
 
 -- 13: an empty clause stands last
-last-passes : (clauses : List (List Literal)) (more : List Row) → checked (last_row clauses ∷ more) ≡ Passes →
+last-passes : (clauses : List (List Literal)) (more : List Row) → checked (last_row clauses ∷ more) ≡ Ok tt →
     Memᴰ [] clauses
 unfolding last_row
 last-passes clauses more e =
@@ -73,7 +73,7 @@ last-passes clauses more e =
 
 -- 12, 13 and room for propagation: the refutation has an empty clause
 pub refutation-passes : (variables : ℕ) (refutation : List ℤ) (room : ℕ) →
-    checked (refutation_rows variables refutation room) ≡ Passes → Memᴰ [] (clauses_of refutation)
+    checked (refutation_rows variables refutation room) ≡ Ok tt → Memᴰ [] (clauses_of refutation)
 refutation-passes variables refutation room e =
     let roomy : List Row = room_row (suc variables) room ∷ [] in
     last-passes (clauses_of refutation) roomy

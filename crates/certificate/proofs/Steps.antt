@@ -1,7 +1,6 @@
--- The steps of a certificate call, and how they make the judgement: a refusal of a step is the judgement's, since the
--- rows before it passed; where all pass, what they left is what acceptance leaves. Laws: time-small; formula-front,
--- refutes-refused, refutes-tested; certified-unsettled, certified-late, certified-tested; concludes-refused,
--- concludes-accepted; judges-unopened, judges-sloped, judges-given. Assumes nothing.
+-- The checks of a certificate in their order: a refusal of one is that of all rows, since those before it passed; where
+-- all pass, what they left is what acceptance leaves. Laws: time-small, formula-front; answers-refused, unaccepted,
+-- unsettled, late, unbuilt, tested, leaves-all. Assumes nothing.
 use mathlib.Core.Path.{◌≡◌, refl, sym, ap, ap₂, ◌∙◌, subst}
 use mathlib.Core.Bool.{not}
 use mathlib.Core.List.{List, ◌∷◌}
@@ -14,65 +13,46 @@ use lib.Seq.{take_at}
 use borrow.Author.Tests.{eq-eqb, ne_eqb}
 use Rattle.refusal.specs.declared.Refusal.{Refusal}
 use Rattle.refusal.specs.declared.Refusal.TheVariants.{Witness}
-use Rattle.refusal.specs.declared.Checked.{Checked}
-use Rattle.refusal.specs.declared.Checked.TheVariants.{Passes, Refused}
+use Rattle.std.specs.Prelude.{Result, Ok, Err}
+use Rattle.refusal.specs.Rows.{Checked}
 use Rattle.refusal.specs.Rows.{Row, checked}
 use Rattle.refusal.proofs.Rows.{stops, goes_on, refused-first, passed_first}
-use Rattle.netlist.specs.declared.Shape.{Shape}
-use Rattle.netlist.specs.declared.Opened.TheVariants.{Accepted as Taken, Refused as Untaken}
-use Rattle.netlist.specs.Netlist.{valid, Circuit, Slopes}
-use Rattle.netlist.specs.File.{circuit_with}
-use Rattle.netlist.specs.Open.{open_circuit_of, slope_rows}
+use Rattle.netlist.specs.declared.circuit.Accepted.{Accepted}
+use Rattle.netlist.specs.Netlist.{valid, Circuit, Slopes, slopes_of}
+use Rattle.netlist.specs.File.{circuit_of}
+use Rattle.netlist.specs.Open.{rows_over}
 use Rattle.netlist.specs.Holds.{Given, Sloped}
-use Rattle.netlist.proofs.Calls.{accepted-circuit, rows-accepted, rows-sloped, rows-rejected}
-use Rattle.settle.specs.declared.Settled.{Settled}
-use Rattle.settle.specs.declared.Settled.TheVariants.{At, Refused as Unsettled}
+use Rattle.netlist.specs.Accepts.{circuit_in, accept_rows, Takes}
+use Rattle.netlist.proofs.Calls.{accepted-circuit}
+use Rattle.netlist.proofs.Accepting.{same_circuit, rows-taken, rows-refused}
 use Rattle.settle.specs.Settling.{circuit_time}
 use Rattle.settle.specs.Promise.{bits, evaluation_rows, evaluation_of}
 use Rattle.settle.proofs.Checks.{answer-refused, answer-time}
 use Rattle.settle.specs.Steps.{latest}
 use Rattle.settle.proofs.Nodes.{circuit-small}
 use Rattle.settle.proofs.Gates.{net-arrives}
-use Rattle.clauses.specs.Clauses.{clauses_of}
+use Rattle.clauses.specs.Clauses.{Literal, clauses_of}
 use Rattle.refute.specs.Rows.{refutation_rows, WellFormed}
 use Rattle.refute.specs.Promise.{Answers, malformed, Tested}
 use Rattle.refute.proofs.Judging.{answers-as}
 use Rattle.formula.specs.declared.Counts.{Counts}
-use Rattle.formula.specs.declared.Built.{Built}
-use Rattle.formula.specs.declared.Built.TheVariants.{Formula, Refused as Unbuilt}
 use Rattle.formula.specs.Promise.{Building, numbers_for, counts_for, built, building_rows, building_of}
 use Rattle.formula.proofs.Answers.{answer-refused as build-refused, answer-counts, passed-built, pairs-fit}
-use Rattle.certificate.specs.Promise.{
-  Rooms,
-  Judgement,
-  Meets,
-  leaving,
-  witness_row,
-  refuting_rows,
-  certificate_rows,
-  refused,
-  certified,
-  judgement_of,
-  Judges,
-  rooms_of,
-}
-use Rattle.certificate.specs.Steps.{Refutes, Certified, Concludes}
+use Rattle.certificate.specs.Promise.{Rooms, Meets, leaving, witness_row, refuting_rows, certificate_rows, certified}
 use Rattle.certificate.proofs.Numbers.{numbers-well-formed}
 use Rattle.certificate.proofs.Granted.{slopes-small}
 
 -- ---- the vector
 
 -- a time at which a vector settles is small
-pub time-small : {file : List ℕ} {shape : Shape} {arrivals : List ℕ} (slopes : Slopes) (vector : List ℕ)
-    (values_room times_room : ℕ) {answer : Settled} {time : ℕ} → Given file shape arrivals → Sloped shape slopes →
-    answer ≡ (evaluation_of (circuit_with file shape arrivals slopes) vector values_room times_room).answer →
-    answer ≡ At time → time ≤ latest
-time-small {file} {shape} {arrivals} slopes vector values_room times_room g sloped a e =
-    let circuit = circuit_with file shape arrivals slopes in
-    let s = answer-time circuit vector values_room times_room a e in
+pub time-small : (a : Accepted) (vector : List ℕ) (values_room times_room : ℕ) {answer : Result ℕ Refusal} {time : ℕ} →
+    Given a.file.now a.shape a.arrivals.now → Sloped a.shape (slopes_of a.form) →
+    answer ≡ (evaluation_of (circuit_in a) vector values_room times_room).answer → answer ≡ Ok time → time ≤ latest
+time-small a vector values_room times_room g sloped e i =
+    let s = answer-time (circuit_in a) vector values_room times_room e i in
     let h =
-    circuit-small circuit g.holds.valid (net-arrives file g.arrived) (slopes-small shape slopes sloped)
-    g.arrived.early (bits vector)
+    circuit-small (circuit_in a) g.holds.valid (net-arrives a.file.now g.arrived)
+    (slopes-small a.shape (slopes_of a.form) sloped) g.arrived.early (bits vector)
     in
     omega (arith, s.1)
 
@@ -86,9 +66,10 @@ pub record FormulaFront (circuit : Circuit) (target : ℕ) (counts : Counts) (fo
   pub variables-are : counts.variables ≡ (counts_for circuit target).variables
   pub well-formed : WellFormed counts.variables (take counts.numbers formula)
 
-pub formula-front : {circuit : Circuit} {target : ℕ} (pairs_room formula_room : ℕ) {answer : Built} {counts : Counts}
-    {formula : List ℤ} → T (valid circuit.net) → answer ≡ (building_of circuit target pairs_room formula_room).answer →
-    formula ≡ (building_of circuit target pairs_room formula_room).formula → answer ≡ Formula counts →
+pub formula-front : {circuit : Circuit} {target : ℕ} (pairs_room formula_room : ℕ) {answer : Result Counts Refusal}
+    {counts : Counts} {formula : List ℤ} → T (valid circuit.net) →
+    answer ≡ (building_of circuit target pairs_room formula_room).answer →
+    formula ≡ (building_of circuit target pairs_room formula_room).formula → answer ≡ Ok counts →
     FormulaFront circuit target counts formula
 unfolding counts_for built
 formula-front {circuit} {target} pairs_room formula_room {answer} {counts} {formula} ok a f e =
@@ -112,236 +93,120 @@ formula-front {circuit} {target} pairs_room formula_room {answer} {counts} {form
           (omega (arith, pairs-fit circuit target pairs_room formula_room b.0))));
     }
 
-module _ {circuit : Circuit} {target : ℕ} {refutation : List ℤ} {pairs_room formula_room propagation_room : ℕ}
-    {answer : Built} {pairs : List ℕ} {formula : List ℤ} {propagation : List ℕ} where
-  -- the building is refused
-  pub refutes-refused : {refusal : Refusal} → answer ≡ (building_of circuit target pairs_room formula_room).answer →
-      pairs ≡ (building_of circuit target pairs_room formula_room).pairs →
-      formula ≡ (building_of circuit target pairs_room formula_room).formula →
-      length pairs ≡ pairs_room → length formula ≡ formula_room → length propagation ≡ propagation_room →
-      answer ≡ Unbuilt refusal →
-      Refutes circuit target refutation pairs_room formula_room propagation_room (Refused refusal) pairs formula
-      propagation
-  refutes-refused {refusal} a p f l m n e =
-      record {
-        answers =
-            malformed
-            (refused-first (building_rows circuit target pairs_room formula_room)
-            (refutation_rows (counts_for circuit target).variables refutation propagation_room)
-            (build-refused circuit target pairs_room formula_room a e));
-        pairs-are = p;
-        formula-is = f;
-        propagation-is = λ q. let w : ◌≡◌ {A = ℕ} 0 1 = cc in absurd (omega arith);
-        pairs-long = l;
-        formula-long = m;
-        propagation-long = n;
-      }
+-- ---- the rows of an accepted circuit
 
-  -- the formula is built, and the refutation tested
-  pub refutes-tested : {counts : Counts} {tested : Checked} → T (valid circuit.net) →
-      answer ≡ (building_of circuit target pairs_room formula_room).answer →
-      pairs ≡ (building_of circuit target pairs_room formula_room).pairs →
-      formula ≡ (building_of circuit target pairs_room formula_room).formula →
-      length pairs ≡ pairs_room → length formula ≡ formula_room → length propagation ≡ propagation_room →
-      answer ≡ Formula counts →
-      Tested counts.variables (take counts.numbers formula) refutation propagation_room tested →
-      propagation ≡ replicate propagation_room 0 →
-      Refutes circuit target refutation pairs_room formula_room propagation_room tested pairs formula propagation
-  refutes-tested {counts} {tested} ok a p f l m n e t z =
-      let b = formula-front pairs_room formula_room ok a f e in
-      record {
-        answers =
-            answers-as
-            (sym
-            (passed_first (building_rows circuit target pairs_room formula_room)
-            (refutation_rows (counts_for circuit target).variables refutation propagation_room)
-            (answer-counts circuit target pairs_room formula_room a e).0))
-            (subst (λ (k : ℕ). Tested k (numbers_for circuit target) refutation propagation_room tested)
-            b.variables-are
-            (subst (λ (zs : List ℤ). Tested counts.variables zs refutation propagation_room tested)
-            b.numbers-are t));
-        pairs-are = p;
-        formula-is = f;
-        propagation-is = λ q. z;
-        pairs-long = l;
-        formula-long = m;
-        propagation-long = n;
-      }
+-- a refusal of the rows is the answer
+pub answers-refused : {rows : List Row} {stored refutation : List (List Literal)} {answer : Checked}
+    {refusal : Refusal} → answer ≡ Err refusal → checked rows ≡ Err refusal → Answers rows stored refutation answer
+answers-refused {rows} {stored} {refutation} e r = subst (Answers rows stored refutation) (sym e) (malformed r)
 
--- ---- the certificate of an accepted netlist
+-- the file, its arrivals or its form are refused
+pub unaccepted : (file arrivals : List ℕ) (slopes : Slopes) (delay : ℕ) (vector : List ℕ) (refutation : List ℤ)
+    (rooms : Rooms) {refusal : Refusal} → checked (accept_rows file arrivals slopes) ≡ Err refusal →
+    checked (rows_over file arrivals slopes (certificate_rows delay vector refutation rooms)) ≡ Err refusal
+unaccepted file arrivals slopes delay vector refutation rooms =
+    rows-refused file arrivals slopes (certificate_rows delay vector refutation rooms)
 
--- slices of the same lengths
-same-rooms : {v t p f g v' t' p' f' g' : ℕ} → v ≡ v' → t ≡ t' → p ≡ p' → f ≡ f' → g ≡ g' →
-    ◌≡◌ {A = Rooms} (record { values = v; times = t; pairs = p; formula = f; propagation = g })
-    (record { values = v'; times = t'; pairs = p'; formula = f'; propagation = g' })
-same-rooms a b c d e = cc
+module _ {file arrivals : List ℕ} {slopes : Slopes} {a : Accepted} (delay : ℕ) (vector : List ℕ) (refutation : List ℤ)
+    (rooms : Rooms) (t : Takes file arrivals slopes a) where
+  -- what is accepted is the circuit
+  taken-circuit : circuit_of file arrivals slopes ≡ circuit_in a
+  taken-circuit = accepted-circuit file arrivals slopes t.opens ∙ same_circuit file arrivals slopes t
 
--- what meets one judgement meets an equal one
-meets-as : {a b result : Judgement} → a ≡ b → Meets a result → Meets b result
-meets-as {result = result} e m = subst (λ (promised : Judgement). Meets promised result) e m
+  -- all rows of the call, and those of the vector, the formula and the refutation
+  abbrev rows : List Row
+  rows = rows_over file arrivals slopes (certificate_rows delay vector refutation rooms)
 
--- the rows up to the vector's, and those after it
-abbrev evaluating : Circuit → List ℕ → Rooms → List Row
-evaluating circuit vector rooms = evaluation_rows circuit vector rooms.values rooms.times
+  abbrev evaluating : List Row
+  evaluating = evaluation_rows (circuit_in a) vector rooms.values rooms.times
 
-abbrev refuting : Circuit → ℕ → List ℤ → Rooms → List Row
-refuting circuit delay refutation rooms =
-    refuting_rows circuit (suc delay) refutation rooms.pairs rooms.formula rooms.propagation
+  abbrev building : ℕ → List Row
+  building target = building_rows (circuit_in a) target rooms.pairs rooms.formula
 
-module _ {circuit : Circuit} {delay : ℕ} {vector : List ℕ} {refutation : List ℤ} {rooms : Rooms}
-    {values times pairs : List ℕ} {formula : List ℤ} {propagation : List ℕ} {answer : Settled}
-    (a : answer ≡ (evaluation_of circuit vector rooms.values rooms.times).answer) where
-  -- a row refuses: what the slices hold matters no more, but for their lengths
-  certified-refused : {refusal : Refusal} →
-      checked (certificate_rows delay vector refutation rooms circuit) ≡ Refused refusal →
-      length values ≡ rooms.values → length times ≡ rooms.times → length pairs ≡ rooms.pairs →
-      length formula ≡ rooms.formula → length propagation ≡ rooms.propagation →
-      Certified circuit delay vector refutation rooms (Refused refusal) values times pairs formula propagation
-  certified-refused e v t p f g =
-      record {
-        answers = malformed e;
-        leaves = λ q. let w : ◌≡◌ {A = ℕ} 0 1 = cc in absurd (omega arith);
-        rooms-are = same-rooms v t p f g;
-      }
+  abbrev testing : ℕ → List Row
+  testing target = refutation_rows (counts_for (circuit_in a) target).variables refutation rooms.propagation
 
-  -- the vector or its rooms are refused
-  pub certified-unsettled : {refusal : Refusal} → answer ≡ Unsettled refusal →
-      length values ≡ rooms.values → length times ≡ rooms.times → length pairs ≡ rooms.pairs →
-      length formula ≡ rooms.formula → length propagation ≡ rooms.propagation →
-      Certified circuit delay vector refutation rooms (Refused refusal) values times pairs formula propagation
-  certified-unsettled e =
-      certified-refused
-      (refused-first (evaluating circuit vector rooms)
-      (witness_row circuit delay vector ∷ refuting circuit delay refutation rooms)
-      (answer-refused circuit vector rooms.values rooms.times a e))
+  abbrev refuting : ℕ → List Row
+  refuting target = refuting_rows (circuit_in a) target refutation rooms.pairs rooms.formula rooms.propagation
 
-  module _ {time : ℕ} (e : answer ≡ At time) where
-    -- the vector settles at another time
-    pub certified-late : (time ≡ delay → ⊥) →
-        length values ≡ rooms.values → length times ≡ rooms.times → length pairs ≡ rooms.pairs →
-        length formula ≡ rooms.formula → length propagation ≡ rooms.propagation →
-        Certified circuit delay vector refutation rooms (Refused (Witness time)) values times pairs formula propagation
-    certified-late h =
-        let says = answer-time circuit vector rooms.values rooms.times a e in
-        certified-refused
-        (passed_first (evaluating circuit vector rooms)
-        (witness_row circuit delay vector ∷ refuting circuit delay refutation rooms) says.0
-        ∙ stops (Witness (circuit_time circuit (bits vector))) (refuting circuit delay refutation rooms)
-        (ap not (ne_eqb (circuit_time circuit (bits vector)) delay (λ q. h (sym says.1 ∙ q))))
-        ∙ ap (λ (t : ℕ). Refused (Witness t)) says.1)
+  abbrev after : List Row
+  after = witness_row (circuit_in a) delay vector ∷ refuting (suc delay)
 
-    -- it settles at the delay, and the refutation is tested
-    pub certified-tested : {tested : Checked} {target : ℕ} → time ≡ delay →
-        values ≡ (evaluation_of circuit vector rooms.values rooms.times).values →
-        times ≡ (evaluation_of circuit vector rooms.values rooms.times).times →
-        length values ≡ rooms.values → length times ≡ rooms.times → target ≡ suc delay →
-        Refutes circuit target refutation rooms.pairs rooms.formula rooms.propagation tested pairs formula
-        propagation →
-        Certified circuit delay vector refutation rooms tested values times pairs formula propagation
-    unfolding certified
-    certified-tested {tested} h v t l m next r =
-        let says = answer-time circuit vector rooms.values rooms.times a e in
-        record {
-          answers =
-              answers-as
-              (sym
-              (passed_first (evaluating circuit vector rooms)
-              (witness_row circuit delay vector ∷ refuting circuit delay refutation rooms) says.0
-              ∙ goes_on (Witness (circuit_time circuit (bits vector))) (refuting circuit delay refutation rooms)
-              (ap not (eq-eqb (circuit_time circuit (bits vector)) delay (says.1 ∙ h)))))
-              (subst
-              (λ (n : ℕ).
-              Answers (refuting_rows circuit n refutation rooms.pairs rooms.formula rooms.propagation)
-              (clauses_of (numbers_for circuit n)) (clauses_of refutation) tested)
-              next r.answers);
-          leaves =
-              λ q.
-              record {
-                answer-is = refl;
-                values-are = v;
-                times-are = t;
-                pairs-are =
-                    r.pairs-are ∙ ap (λ (n : ℕ). (building_of circuit n rooms.pairs rooms.formula).pairs) next;
-                formula-is =
-                    r.formula-is ∙ ap (λ (n : ℕ). (building_of circuit n rooms.pairs rooms.formula).formula) next;
-                propagation-is = r.propagation-is q;
-              };
-          rooms-are = same-rooms l m r.pairs-long r.formula-long r.propagation-long;
-        }
+  module _ {settled : Result ℕ Refusal}
+      (s : settled ≡ (evaluation_of (circuit_in a) vector rooms.values rooms.times).answer) where
+    -- the vector or its rooms are refused
+    pub unsettled : {refusal : Refusal} → settled ≡ Err refusal → checked rows ≡ Err refusal
+    unsettled e =
+        rows-taken file arrivals slopes (certificate_rows delay vector refutation rooms) t
+        ∙ refused-first evaluating after
+        (answer-refused (circuit_in a) vector rooms.values rooms.times s e)
 
--- ---- the judgement of an accepted circuit
+    module _ {time : ℕ} (e : settled ≡ Ok time) where
+      time-is : circuit_time (circuit_in a) (bits vector) ≡ time
+      time-is = (answer-time (circuit_in a) vector rooms.values rooms.times s e).1
 
-module _ {circuit : Circuit} {delay : ℕ} {vector : List ℕ} {refutation : List ℤ} {rooms : Rooms} {answer : Checked}
-    {values times pairs : List ℕ} {formula : List ℤ} {propagation : List ℕ}
-    (c : Certified circuit delay vector refutation rooms answer values times pairs formula propagation) where
-  -- the certificate is refused
-  pub concludes-refused : {refusal : Refusal} {result : Judgement} → answer ≡ Refused refusal →
-      Meets (refused (rooms_of values times pairs formula propagation) refusal) result →
-      Concludes circuit delay vector refutation rooms result
-  concludes-refused {refusal} q z =
-      record {
-        answer = answer;
-        answers = c.answers;
-        meets =
-            meets-as
-            (ap (λ (k : Rooms). refused k refusal) c.rooms-are
-            ∙ sym (ap (judgement_of circuit delay vector rooms) q))
-            z;
-      }
+      settles : checked rows ≡ checked after
+      settles =
+          rows-taken file arrivals slopes (certificate_rows delay vector refutation rooms) t
+          ∙ passed_first evaluating after (answer-time (circuit_in a) vector rooms.values rooms.times s e).0
 
-  -- it is accepted
-  pub concludes-accepted : answer ≡ Passes →
-      Concludes circuit delay vector refutation rooms (leaving Passes values times pairs formula propagation)
-  concludes-accepted q =
-      record {
-        answer = answer;
-        answers = c.answers;
-        meets = meets-as (sym (ap (judgement_of circuit delay vector rooms) q)) (c.leaves q);
-      }
+      -- the vector settles at another time
+      pub late : (time ≡ delay → ⊥) → checked rows ≡ Err (Witness time)
+      late h =
+          settles
+          ∙ stops (Witness (circuit_time (circuit_in a) (bits vector))) (refuting (suc delay))
+          (ap not (ne_eqb (circuit_time (circuit_in a) (bits vector)) delay (λ q. h (sym time-is ∙ q))))
+          ∙ ap (λ (t : ℕ). Err (Witness t)) time-is
 
--- ---- of any bytes
+      module _ (h : time ≡ delay) {target : ℕ} (next : target ≡ suc delay) {made : Result Counts Refusal}
+          (m : made ≡ (building_of (circuit_in a) target rooms.pairs rooms.formula).answer) where
+        on_time : checked rows ≡ checked (refuting target)
+        on_time =
+            settles
+            ∙ goes_on (Witness (circuit_time (circuit_in a) (bits vector))) (refuting (suc delay))
+            (ap not (eq-eqb (circuit_time (circuit_in a) (bits vector)) delay (time-is ∙ h)))
+            ∙ ap (λ (n : ℕ). checked (refuting n)) (sym next)
 
-module _ {file arrivals : List ℕ} {slopes : Slopes} {delay : ℕ} {vector : List ℕ} {refutation : List ℤ} {rooms : Rooms}
-    {result : Judgement} where
-  -- the file or its arrivals are refused
-  pub judges-unopened : {refusal : Refusal} → open_circuit_of file arrivals ≡ Untaken refusal →
-      Meets (refused rooms refusal) result → Judges file arrivals slopes delay vector refutation rooms result
-  judges-unopened {refusal} e z =
-      record {
-        answer = Refused refusal;
-        answers = malformed (rows-rejected file arrivals slopes (certificate_rows delay vector refutation rooms) e);
-        meets = z;
-      }
+        -- the formula is refused
+        pub unbuilt : {refusal : Refusal} → made ≡ Err refusal → checked rows ≡ Err refusal
+        unbuilt f =
+            on_time
+            ∙ refused-first (building target) (testing target)
+            (build-refused (circuit_in a) target rooms.pairs rooms.formula m f)
 
-  -- its slopes are
-  pub judges-sloped : {shape : Shape} {refusal : Refusal} → open_circuit_of file arrivals ≡ Taken shape →
-      checked (slope_rows shape.pins slopes) ≡ Refused refusal → Meets (refused rooms refusal) result →
-      Judges file arrivals slopes delay vector refutation rooms result
-  judges-sloped {refusal = refusal} e s z =
-      record {
-        answer = Refused refusal;
-        answers = malformed (rows-sloped file arrivals slopes (certificate_rows delay vector refutation rooms) e s);
-        meets = z;
-      }
-
-  -- all are accepted, and the certificate is judged
-  pub judges-given : {shape : Shape} → open_circuit_of file arrivals ≡ Taken shape →
-      checked (slope_rows shape.pins slopes) ≡ Passes →
-      Concludes (circuit_with file shape arrivals slopes) delay vector refutation rooms result →
-      Judges file arrivals slopes delay vector refutation rooms result
-  judges-given {shape} e s c =
-      let same = accepted-circuit file arrivals slopes e in
-      record {
-        answer = c.answer;
-        answers =
-            answers-as
-            (sym (rows-accepted file arrivals slopes (certificate_rows delay vector refutation rooms) e s))
+        -- it is built, and the refutation tested
+        pub tested : {counts : Counts} {formula : List ℤ} {answer : Checked} → made ≡ Ok counts →
+            FormulaFront (circuit_in a) target counts formula →
+            Tested counts.variables (take counts.numbers formula) refutation rooms.propagation answer →
+            Answers rows (clauses_of (numbers_for (circuit_of file arrivals slopes) (suc delay)))
+            (clauses_of refutation) answer
+        tested {counts} {formula} {answer} f b x =
+            let passes = (answer-counts (circuit_in a) target rooms.pairs rooms.formula m f).0 in
+            subst (λ (zs : List ℤ). Answers rows (clauses_of zs) (clauses_of refutation) answer)
+            (b.numbers-are ∙ ap₂ numbers_for (sym taken-circuit) next)
+            (answers-as (sym (on_time ∙ passed_first (building target) (testing target) passes))
             (subst
-            (λ (circuit : Circuit).
-            Answers (certificate_rows delay vector refutation rooms (circuit_with file shape arrivals slopes))
-            (clauses_of (numbers_for circuit (suc delay))) (clauses_of refutation) c.answer)
-            (sym same) c.answers);
-        meets =
-            meets-as (ap (λ (circuit : Circuit). judgement_of circuit delay vector rooms c.answer) (sym same))
-            c.meets;
-      }
+            (λ (k : ℕ). Tested k (take counts.numbers formula) refutation rooms.propagation answer)
+            b.variables-are x))
+
+  -- where all pass, the slices hold what acceptance leaves
+  pub leaves-all : {target : ℕ} {answer : Checked} {values times pairs : List ℕ} {formula : List ℤ}
+      {propagation : List ℕ} → target ≡ suc delay →
+      values ≡ (evaluation_of (circuit_in a) vector rooms.values rooms.times).values →
+      times ≡ (evaluation_of (circuit_in a) vector rooms.values rooms.times).times →
+      pairs ≡ (building_of (circuit_in a) target rooms.pairs rooms.formula).pairs →
+      formula ≡ (building_of (circuit_in a) target rooms.pairs rooms.formula).formula →
+      propagation ≡ replicate rooms.propagation 0 → answer ≡ Ok tt →
+      Meets (certified (circuit_of file arrivals slopes) delay vector rooms)
+      (leaving answer values times pairs formula propagation)
+  unfolding certified
+  leaves-all next v w p f g e =
+      rw taken-circuit
+      (record {
+        answer-is = e;
+        values-are = v;
+        times-are = w;
+        pairs-are = cc;
+        formula-is = cc;
+        propagation-is = g;
+      })

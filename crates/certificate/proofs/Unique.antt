@@ -3,7 +3,7 @@ use mathlib.Core.Path.{◌≡◌, sym, ap, ◌∙◌, subst}
 use mathlib.Core.List.{List}
 use Prim.Native.Nat.{ℕ}
 use lib.IntN.{ℤ}
-use Rattle.refusal.specs.declared.Checked.{Checked}
+use Rattle.refusal.specs.Rows.{Checked}
 use Rattle.netlist.specs.Netlist.{Slopes}
 use Rattle.netlist.specs.File.{circuit_of}
 use Rattle.refute.proofs.Unique.{answers-unique}

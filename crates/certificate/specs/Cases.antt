@@ -2,8 +2,8 @@
 -- what is needed. proofs/Examples has that each row's call has the row's answer. Interface: Case, cases.
 use Rattle.std.specs.Prelude.{List, [], ◌∷◌, ℕ, ℤ, pos, replicate}
 use Rattle.refusal.specs.declared.Refusal.TheVariants.{Vector, Room, Pairs, Refutation, Last, Step, Witness}
-use Rattle.refusal.specs.declared.Checked.{Checked}
-use Rattle.refusal.specs.declared.Checked.TheVariants.{Passes, Refused}
+use Rattle.std.specs.Prelude.{Ok, Err}
+use Rattle.refusal.specs.Rows.{Checked}
 use Rattle.netlist.specs.Netlist.{Slopes, alike, apart}
 use Rattle.netlist.specs.File.{inputs}
 use Rattle.netlist.specs.Example.{circuit_a}
@@ -60,19 +60,19 @@ wire = 0 ∷ 0 ∷ 2 ∷ 0 ∷ 0 ∷ 0 ∷ 1 ∷ 0 ∷ 0 ∷ 0 ∷ 0 ∷ 0 ∷ 1
 -- Then, for circuit A's certificate: each slice one short, a vector that is none, and refutations that are none.
 unfoldable pub cases : List Case
 cases =
-    case circuit_a 2 (0 ∷ 0 ∷ []) (pos 0 ∷ []) (lending 5 5 6 48 9) Passes
-    ∷ case circuit_a 2 (0 ∷ 1 ∷ []) (pos 0 ∷ []) (lending 5 5 6 48 9) (Refused (Witness 1))
-    ∷ case circuit_a 5 (0 ∷ 0 ∷ []) (pos 0 ∷ []) (lending 5 5 6 48 9) (Refused (Witness 2))
-    ∷ case wire 0 (1 ∷ []) (pos 0 ∷ []) (lending 1 1 0 1 2) Passes
-    ∷ case circuit_a 2 (0 ∷ 0 ∷ []) (pos 0 ∷ []) (lending 4 5 6 48 9) (Refused (Room 5))
-    ∷ case circuit_a 2 (0 ∷ 0 ∷ []) (pos 0 ∷ []) (lending 5 4 6 48 9) (Refused (Room 5))
-    ∷ case circuit_a 2 (0 ∷ 0 ∷ []) (pos 0 ∷ []) (lending 5 5 5 48 9) (Refused Pairs)
-    ∷ case circuit_a 2 (0 ∷ 0 ∷ []) (pos 0 ∷ []) (lending 5 5 6 47 9) (Refused (Room 48))
-    ∷ case circuit_a 2 (0 ∷ 0 ∷ []) (pos 0 ∷ []) (lending 5 5 6 48 8) (Refused (Room 9))
-    ∷ case circuit_a 2 (0 ∷ 2 ∷ []) (pos 0 ∷ []) (lending 5 5 6 48 9) (Refused (Vector 1))
-    ∷ case circuit_a 2 (0 ∷ []) (pos 0 ∷ []) (lending 5 5 6 48 9) (Refused (Vector 2))
-    ∷ case circuit_a 2 (0 ∷ 0 ∷ []) [] (lending 5 5 6 48 9) (Refused (Refutation 0))
-    ∷ case circuit_a 2 (0 ∷ 0 ∷ []) (pos 9 ∷ pos 0 ∷ []) (lending 5 5 6 48 9) (Refused (Refutation 0))
-    ∷ case circuit_a 2 (0 ∷ 0 ∷ []) (pos 1 ∷ pos 0 ∷ []) (lending 5 5 6 48 9) (Refused (Last 1))
-    ∷ case circuit_a 2 (0 ∷ 0 ∷ []) (pos 0 ∷ pos 0 ∷ []) (lending 5 5 6 48 9) (Refused (Last 0))
-    ∷ case circuit_a 1 (0 ∷ 1 ∷ []) (pos 0 ∷ []) (lending 5 5 6 48 9) (Refused (Step 0)) ∷ []
+    case circuit_a 2 (0 ∷ 0 ∷ []) (pos 0 ∷ []) (lending 5 5 6 48 9) (Ok tt)
+    ∷ case circuit_a 2 (0 ∷ 1 ∷ []) (pos 0 ∷ []) (lending 5 5 6 48 9) (Err (Witness 1))
+    ∷ case circuit_a 5 (0 ∷ 0 ∷ []) (pos 0 ∷ []) (lending 5 5 6 48 9) (Err (Witness 2))
+    ∷ case wire 0 (1 ∷ []) (pos 0 ∷ []) (lending 1 1 0 1 2) (Ok tt)
+    ∷ case circuit_a 2 (0 ∷ 0 ∷ []) (pos 0 ∷ []) (lending 4 5 6 48 9) (Err (Room 5))
+    ∷ case circuit_a 2 (0 ∷ 0 ∷ []) (pos 0 ∷ []) (lending 5 4 6 48 9) (Err (Room 5))
+    ∷ case circuit_a 2 (0 ∷ 0 ∷ []) (pos 0 ∷ []) (lending 5 5 5 48 9) (Err Pairs)
+    ∷ case circuit_a 2 (0 ∷ 0 ∷ []) (pos 0 ∷ []) (lending 5 5 6 47 9) (Err (Room 48))
+    ∷ case circuit_a 2 (0 ∷ 0 ∷ []) (pos 0 ∷ []) (lending 5 5 6 48 8) (Err (Room 9))
+    ∷ case circuit_a 2 (0 ∷ 2 ∷ []) (pos 0 ∷ []) (lending 5 5 6 48 9) (Err (Vector 1))
+    ∷ case circuit_a 2 (0 ∷ []) (pos 0 ∷ []) (lending 5 5 6 48 9) (Err (Vector 2))
+    ∷ case circuit_a 2 (0 ∷ 0 ∷ []) [] (lending 5 5 6 48 9) (Err (Refutation 0))
+    ∷ case circuit_a 2 (0 ∷ 0 ∷ []) (pos 9 ∷ pos 0 ∷ []) (lending 5 5 6 48 9) (Err (Refutation 0))
+    ∷ case circuit_a 2 (0 ∷ 0 ∷ []) (pos 1 ∷ pos 0 ∷ []) (lending 5 5 6 48 9) (Err (Last 1))
+    ∷ case circuit_a 2 (0 ∷ 0 ∷ []) (pos 0 ∷ pos 0 ∷ []) (lending 5 5 6 48 9) (Err (Last 0))
+    ∷ case circuit_a 1 (0 ∷ 1 ∷ []) (pos 0 ∷ []) (lending 5 5 6 48 9) (Err (Step 0)) ∷ []

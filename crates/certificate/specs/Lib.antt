@@ -1,9 +1,8 @@
 -- What a reader must believe of a certificate. Interface: Demand (demand 3), Largest (what an accepted delay is),
--- Promise (judge); Cases, Edges and Table (the proved table). Steps serves the code.
+-- Promise (judge); Cases, Edges and Table (the proved table).
 pub mod Demand
 pub mod Largest
 pub mod Promise
-pub mod Steps
 pub mod Cases
 pub mod Edges
 pub mod Table

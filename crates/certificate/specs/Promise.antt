@@ -1,11 +1,11 @@
--- What `judge` and `judge_rise_fall` answer and leave in the five lent slices, for every input, by the checks of rule
+-- What `judge` answers and leaves in the five lent slices, for every input and in either form, by the checks of rule
 -- C3. The rows of evaluation, of building and of the test of a refutation are those of crates settle, formula and
 -- refute. Interface: Judges.
 use Rattle.std.specs.Prelude.{◌≡◌, not, List, ◌∷◌, ◌++◌, ℕ, suc, eqb, ℤ, pos, length, replicate}
 use Rattle.refusal.specs.declared.Refusal.{Refusal}
 use Rattle.refusal.specs.declared.Refusal.TheVariants.{Witness}
-use Rattle.refusal.specs.declared.Checked.{Checked}
-use Rattle.refusal.specs.declared.Checked.TheVariants.{Passes, Refused}
+use Rattle.std.specs.Prelude.{Ok, Err}
+use Rattle.refusal.specs.Rows.{Checked}
 use Rattle.refusal.specs.Rows.{Row, unless_refused}
 use Rattle.netlist.specs.Netlist.{Circuit, Slopes}
 use Rattle.netlist.specs.File.{circuit_of}
@@ -94,7 +94,7 @@ certificate_rows delay vector refutation rooms circuit =
 abbrev pub refused : Rooms → Refusal → Judgement
 refused rooms refusal =
     record {
-      answer = Refused refusal;
+      answer = Err refusal;
       values = replicate rooms.values 0;
       times = replicate rooms.times 0;
       pairs = replicate rooms.pairs 0;
@@ -107,7 +107,7 @@ refused rooms refusal =
 unfoldable pub certified : Circuit → ℕ → List ℕ → Rooms → Judgement
 certified circuit delay vector rooms =
     record {
-      answer = Passes;
+      answer = Ok tt;
       values = (evaluation_of circuit vector rooms.values rooms.times).values;
       times = (evaluation_of circuit vector rooms.values rooms.times).times;
       pairs = (building_of circuit (suc delay) rooms.pairs rooms.formula).pairs;

@@ -1,4 +1,3 @@
 -- The laws, one file a topic.
-pub mod Signs
 pub mod Flat
 pub mod Written

@@ -5,28 +5,25 @@
 ghost use Rattle.std.specs.Prelude.{◌≡◌, ◌+◌, ◌/◌, ◌<◌, pos, length, get_or, set};
 ghost use Rattle.clauses.specs.Codes.{code_of, decoded, signed_of};
 
-// The code of a number; right for every 32-bit number, the least one too.
+// The code of a number; right for every 32-bit number, the least one too. By the sign at once: made of the variable and
+// the sign it costs a check a third more (docs/PERFORMANCE.md).
+#[tactic(auto, unfolding(crate::specs::Codes::code_of))]
 pub fn code_of(number: i32) -> usize
     ensures { (result ≡ code_of number) × (result < 8589934592) }
 {
     if number < 0 {
-        let rest = -1 - number;
-        (rest as usize) * 2 + 3
+        (-1 - number) as usize * 2 + 3
     } else {
-        (number as usize) * 2
+        number as usize * 2
     }
 }
 
 // The variable of a number, its magnitude: half the code, in fewer instructions where the code is not needed.
+#[tactic(auto, unfolding(crate::specs::Codes::code_of))]
 pub fn variable_of(number: i32) -> usize
     ensures { (result ≡ code_of number / 2) × (result < 4294967296) }
 {
-    if number < 0 {
-        let rest = -1 - number;
-        (rest as usize) + 1
-    } else {
-        number as usize
-    }
+    number.unsigned_abs() as usize
 }
 
 // The variable of the number at a place.
@@ -46,16 +43,13 @@ pub fn code_at(list: &[i32], at: usize) -> usize
 }
 
 // The number of a code.
+#[tactic(auto, unfolding(crate::specs::Codes::decoded))]
 pub fn number_of(code: usize) -> i32
     requires { code < 4294967296 }
     ensures { result ≡ decoded code }
 {
     let variable = (code / 2) as i32;
-    if code % 2 == 0 {
-        variable
-    } else {
-        0 - variable
-    }
+    if code % 2 == 0 { variable } else { -variable }
 }
 
 // One number more, where there is room; the place after it, room or not.
@@ -65,19 +59,15 @@ pub fn put(slice: &mut [i32], at: usize, code: usize) -> usize
 {
     if at < slice.len() {
         slice[at] = number_of(code);
-        return at + 1;
     }
     at + 1
 }
 
 // The signed number whose 32 bits, read without a sign, are the word: two's complement.
+#[tactic(auto, unfolding(crate::specs::Codes::signed_of))]
 pub fn signed(word: usize) -> i32
     requires { word < 4294967296 }
     ensures { result ≡ signed_of word }
 {
-    if word < 2147483648 {
-        return word as i32;
-    }
-    let rest = (4294967295 - word) as i32;
-    -1 - rest
+    (word as u32).cast_signed()
 }

@@ -1,5 +1,3 @@
--- The laws: Numbers (a slice that is filled with numbers), Words (one number out of four bytes), Written (words behind
--- words).
+-- The laws: Numbers (a list of the numbers of words), Written (words behind words, and the text of a value).
 pub mod Numbers
-pub mod Words
 pub mod Written

@@ -4,18 +4,22 @@
 #![tactic(auto)]
 
 ghost use Rattle.std.specs.Prelude.{◌≡◌, false, ◌∷◌, [], ◌++◌, ◌+◌, ◌-◌, ◌*◌, ◌/◌, ◌<◌, ◌≤◌, ℕ, List};
-ghost use Rattle.std.specs.Prelude.{min, length, drop, take, codes, IfOk, OnErr};
+ghost use Rattle.std.specs.Prelude.{min, length, drop, take, codes, IfOk, OnOk, OnErr, IfSome, ◌⊎◌};
 ghost use Rattle.std.specs.Fmt.{decimal};
 ghost use Rattle.std.specs.Io.{ReadsAtMost};
 ghost use Rattle.std.specs.Io.KnownBytes.{Consumes, IsAtEnd};
-ghost use Rattle.refusal.specs.Table.{number_of, place_of};
-ghost use Rattle.console.specs.Reading.{numbers_of, unsigned_of, told_of, word_of, Came};
-ghost use Rattle.console.specs.Writing.{Written, number_text, refusal_text};
+ghost use Rattle.refusal.specs.Table.{number_text, refusal_text};
+ghost use Rattle.clauses.specs.Codes.{signed_of};
+ghost use Rattle.lent.specs.Bytes.{four_bytes};
+ghost use Rattle.console.specs.Reading.{words_of, told_of, count_of, word_of, Came};
+ghost use Rattle.console.specs.Writing.{Written};
 
 use refusal::Refusal;
+use std::fmt::{Display, InlineText, Write as _};
 use std::io::{self, ErrorKind, Read, Write};
 
-// Words as they are. Where it fails, a front of them is written, and so it is with all that print below.
+// Words as they are. Where it fails, a front of them is written, and so it is with all that print below. That is what
+// std's `write_all` does not say; the loop, which steps by what the writer took, is its.
 pub fn print<W: Write>(out: &mut W, words: &[u8]) -> io::Result<()>
     ensures { Written (W.contents out.old) (W.contents out.new) result words.now }
 {
@@ -23,60 +27,48 @@ pub fn print<W: Write>(out: &mut W, words: &[u8]) -> io::Result<()>
     while done < words.len() {
         let taken = out.write(&words[done..])?;
         if taken == 0 {
-            return Err(io::Error::from(ErrorKind::WriteZero));
+            return Err(ErrorKind::WriteZero.into());
         }
         done += taken;
     }
     Ok(())
 }
 
-// A number's digits at the start of a text; how many.
-fn put_digits(number: usize, text: &mut [u8; 20]) -> usize
-    ensures count { result ≡ length (decimal number) }
-    ensures digits { take result text.new ≡ decimal number }
-    ensures room { result ≤ 20 }
+// The text of a value. One over 64 bytes, twice as many as any here has, fails before anything is written.
+fn print_text<W: Write, D: Display + Drop>(out: &mut W, value: D) -> io::Result<()>
+    ensures { IfSome (D.output value) (λ words. Written (W.contents out.old) (W.contents out.new) result words) }
 {
-    if number < 10 {
-        text[0] = b'0' + number as u8;
-        return 1;
-    }
-    let count = put_digits(number / 10, text);
-    text[count] = b'0' + (number % 10) as u8;
-    count + 1
+    let mut text = InlineText::<64>::new();
+    text.write(value)?;
+    print(out, text.as_str().as_bytes())
 }
 
 // A number.
 pub fn print_decimal<W: Write>(out: &mut W, number: usize) -> io::Result<()>
     ensures { Written (W.contents out.old) (W.contents out.new) result (decimal number) }
 {
-    let mut text = [0u8; 20];
-    let count = put_digits(number, &mut text);
-    print(out, &text[..count])
+    print_text(out, number)
 }
 
 // A space and a number.
 pub fn print_number<W: Write>(out: &mut W, number: usize) -> io::Result<()>
     ensures { Written (W.contents out.old) (W.contents out.new) result (number_text number) }
 {
-    print(out, b" ")?;
-    print_decimal(out, number)
+    print_text(out, format_args!(" {number}"))
 }
 
 // The words `refused number place`.
 pub fn print_refusal<W: Write>(out: &mut W, refusal: Refusal) -> io::Result<()>
     ensures { Written (W.contents out.old) (W.contents out.new) result (refusal_text refusal) }
 {
-    print(out, b"refused")?;
-    print_number(out, refusal::number(refusal) as usize)?;
-    print_number(out, refusal::place(refusal))
+    print_text(out, refusal)
 }
 
 // The line of these words.
 pub fn print_refused<W: Write>(out: &mut W, refusal: Refusal) -> io::Result<()>
     ensures { Written (W.contents out.old) (W.contents out.new) result (refusal_text refusal ++ (10 ∷ [])) }
 {
-    print_refusal(out, refusal)?;
-    print(out, b"\n")
+    print_text(out, format_args!("{refusal}\n"))
 }
 
 // The last line of a bundle of cases that is not one; there is no more case.
@@ -89,7 +81,7 @@ pub fn bad_bundle<W: Write>(out: &mut W) -> io::Result<bool>
 }
 
 // Reads until the slice is full or the input ends; how many bytes came. Where it fails, the bytes that came before
-// stand at the front of the slice, and nothing is said of what is behind them.
+// stand at the front of the slice, and nothing is said of what is behind them. It steps by what came.
 pub fn read<R: Read>(input: &mut R, slice: &mut [u8]) -> io::Result<usize>
     ensures bound { ReadsAtMost result slice.new }
     ensures bytes { IfOk result (λ got. Consumes (R.remaining input.old) (R.remaining input.new) (take got slice.new)) }
@@ -108,8 +100,8 @@ pub fn read<R: Read>(input: &mut R, slice: &mut [u8]) -> io::Result<usize>
     Ok(done)
 }
 
-// What stands where a number of four bytes should.
-#[derive(Clone, Copy)]
+// What stands where a number of four bytes should: three answers, so neither an option nor a result.
+#[derive(Clone, Copy, Debug, PartialEq, Eq)]
 pub enum Word {
     Number(usize),
     Nothing,
@@ -121,18 +113,20 @@ fn word_of(got: usize, head: &[u8]) -> Word
     requires { 4 ≤ length head.now }
     ensures { result ≡ word_of got head.now }
 {
-    if got == 0 {
-        return Word::Nothing;
+    match got {
+        0 => Word::Nothing,
+        1..=3 => Word::Cut,
+        _ => Word::Number(lent::four_bytes(head, 0)),
     }
-    if got < 4 {
-        return Word::Cut;
-    }
-    Word::Number(lent::four_bytes(head, 0))
 }
 
 // Reads four bytes, little endian.
 pub fn read_number<R: Read>(input: &mut R) -> io::Result<Word>
     ensures came { IfOk result (λ word. Came word) }
+    ensures bytes { IfOk result (λ word. (bytes : List ℕ) × (word ≡ word_of (length bytes) bytes)
+        × Consumes (R.remaining input.old) (R.remaining input.new) bytes) }
+    ensures end { IfOk result (λ word. ((number : ℕ) → word ≡ Word.Number number → ⊥)
+        → IsAtEnd (R.remaining input.new)) }
     ensures err { OnErr result ((bytes : List ℕ) × (length bytes ≤ 4)
         × Consumes (R.remaining input.old) (R.remaining input.new) bytes) }
 {
@@ -141,71 +135,149 @@ pub fn read_number<R: Read>(input: &mut R) -> io::Result<Word>
     Ok(word_of(got, &head))
 }
 
-// The smaller of two numbers: what is told of a length, and what is there.
-pub fn least(told: usize, there: usize) -> usize
-    ensures { (result ≡ min told there) × (result ≤ there) }
-{
-    if told < there { told } else { there }
+// A type of numbers, by the number that a word of 32 bits stands for.
+pub trait FromWord: Copy {
+    ghost number_of: { ℕ → Self };
+
+    fn from_word(word: usize) -> Self
+        requires { word < 4294967296 }
+        ensures { result ≡ number_of word };
 }
 
-// Signed numbers out of bytes, four bytes each, little endian: as many as the slice has room for.
-pub fn numbers_of(bytes: &[u8], numbers: &mut [i32])
+impl FromWord for u32 {
+    ghost number_of = { λ word. word };
+
+    fn from_word(word: usize) -> u32 {
+        word as u32
+    }
+}
+
+impl FromWord for i32 {
+    ghost number_of = { signed_of };
+
+    fn from_word(word: usize) -> i32 {
+        clauses::signed(word)
+    }
+}
+
+// Numbers out of bytes, four bytes each, little endian: as many as the slice has room for.
+pub fn numbers_of<T: FromWord>(bytes: &[u8], numbers: &mut [T])
     requires { length numbers.old * 4 ≤ length bytes.now }
-    ensures { numbers.new ≡ numbers_of bytes.now (length numbers.old) }
+    ensures { numbers.new ≡ words_of T.number_of bytes.now (length numbers.old) }
 {
-    let mut k = 0;
-    while k < numbers.len() {
-        numbers[k] = clauses::signed(lent::four_bytes(bytes, k * 4));
-        k += 1;
+    for (k, number) in numbers.iter_mut().enumerate() {
+        *number = T::from_word(lent::four_bytes(bytes, k * 4));
     }
 }
 
-// The same for unsigned numbers.
-pub fn unsigned_of(bytes: &[u8], numbers: &mut [u32])
-    requires { length numbers.old * 4 ≤ length bytes.now }
-    ensures { numbers.new ≡ unsigned_of bytes.now (length numbers.old) }
-{
-    let mut k = 0;
-    while k < numbers.len() {
-        numbers[k] = lent::four_bytes(bytes, k * 4) as u32;
-        k += 1;
+// What is left of an input of lists, each behind its length in four bytes, little endian. A list that is cut short goes
+// as far as the input does.
+#[derive(Clone, Copy, Debug)]
+pub struct Lists<'a> {
+    pub rest: &'a [u8],
+}
+
+impl<'a> Lists<'a> {
+    // The next number, of four bytes; 0 where it is cut short.
+    pub fn number(&mut self) -> u32
+        ensures number { result ≡ told_of self.old.rest.now }
+        ensures rest { self.new.rest.now ≡ drop 4 self.old.rest.now }
+    {
+        if self.rest.len() < 4 {
+            self.rest = &[];
+            return 0;
+        }
+        let number = lent::four_bytes(self.rest, 0) as u32;
+        self.rest = &self.rest[4..];
+        number
+    }
+
+    // The next list, of bytes: as many as are told and are there.
+    pub fn bytes(&mut self) -> &'a [u8]
+        ensures bytes { result.now ≡ take (told_of self.old.rest.now) (drop 4 self.old.rest.now) }
+        ensures rest { self.new.rest.now ≡ drop (told_of self.old.rest.now) (drop 4 self.old.rest.now) }
+    {
+        let length = self.number() as usize;
+        let (list, rest) = self.rest.split_at(length.min(self.rest.len()));
+        self.rest = rest;
+        list
+    }
+
+    // The next list, of numbers: as many as are told, are there and have room; how many. Those without room are passed
+    // by.
+    pub fn numbers<T: FromWord>(&mut self, numbers: &mut [T]) -> usize
+        ensures count { (result ≡ min (count_of self.old.rest.now) (length numbers.old))
+            × (result ≤ length numbers.new) }
+        ensures numbers { numbers.new ≡ words_of T.number_of (drop 4 self.old.rest.now) result
+            ++ drop result numbers.old }
+        ensures rest { self.new.rest.now ≡ drop (count_of self.old.rest.now * 4) (drop 4 self.old.rest.now) }
+    {
+        let there = (self.number() as usize).min(self.rest.len() / 4);
+        let count = there.min(numbers.len());
+        numbers_of(self.rest, &mut numbers[..count]);
+        self.rest = &self.rest[there * 4..];
+        count
     }
 }
 
-// The length that stands in front of a list, in its first four bytes; none where these are cut short.
-pub fn told_by(list: &[u8]) -> usize
-    ensures { result ≡ told_of list.now }
-{
-    if list.len() < 4 {
-        return 0;
-    }
-    lent::four_bytes(list, 0)
+// Why a bundle of cases goes no further: what stands there is no case, or a reader or a writer failed.
+#[derive(Debug, Drop)]
+pub enum Stop {
+    Bad,
+    Failed(io::Error),
 }
 
-// The unsigned numbers of a list that begins with their count: as many as are told, are there and have room; how many.
-pub fn counted_of(list: &[u8], numbers: &mut [u32]) -> usize
-    ensures { (result ≡ min (min (told_of list.now) ((length list.now - 4) / 4))
-        (length numbers.old))
-        × (numbers.new ≡ unsigned_of (drop 4 list.now) result ++ drop result numbers.old)
-        × (result ≤ length numbers.new) }
-{
-    if list.len() < 4 {
-        return 0;
+impl From<io::Error> for Stop {
+    ghost use Rattle.console.specs.declared.Stop.TheVariants.{Failed};
+
+    ghost from_gives = { λ error stop. stop ≡ Failed error };
+
+    fn from(error: io::Error) -> Stop {
+        Stop::Failed(error)
     }
-    let there = least(told_by(list), (list.len() - 4) / 4);
-    let count = least(there, numbers.len());
-    unsigned_of(&list[4..], &mut numbers[..count]);
-    count
 }
 
-// Where such a list ends: behind as many numbers as are told and are there.
-pub fn counted_end(list: &[u8]) -> usize
-    ensures { (result ≡ min 4 (length list.now)
-        + min (told_of list.now) ((length list.now - 4) / 4) * 4)
-        × (result ≤ length list.now) }
+// Reads a slice full; where the input ends too early or fails, what came stands at its front.
+pub fn fill<R: Read>(input: &mut R, slice: &mut [u8]) -> Result<(), Stop>
+    ensures bytes { OnOk result (Consumes (R.remaining input.old) (R.remaining input.new) slice.new) }
+    ensures bad { result ≡ Err Stop.Bad → IsAtEnd (R.remaining input.new) }
+    ensures err { OnErr result ((got : ℕ) × (got ≤ length slice.new)
+        × Consumes (R.remaining input.old) (R.remaining input.new) (take got slice.new)) }
 {
-    if list.len() < 4 {
-        return list.len();
+    if read(input, slice)? < slice.len() {
+        return Err(Stop::Bad);
     }
-    4 + least(told_by(list), (list.len() - 4) / 4) * 4
+    Ok(())
+}
+
+// Reads a number of at most so many, none at the input's end.
+pub fn read_count<R: Read>(input: &mut R, most: usize) -> Result<Option<usize>, Stop>
+    ensures most { IfOk result (λ read. IfSome read (λ count. count ≤ most)) }
+    ensures bytes { IfOk result (λ read. IfSome read (λ count. (bytes : List ℕ)
+        × (Word.Number count ≡ word_of (length bytes) bytes)
+        × Consumes (R.remaining input.old) (R.remaining input.new) bytes)) }
+    ensures none { result ≡ Ok None → IsAtEnd (R.remaining input.new) }
+    ensures bad { result ≡ Err Stop.Bad → IsAtEnd (R.remaining input.new) ⊎ ((bytes : List ℕ)
+        × (most < four_bytes bytes 0) × Consumes (R.remaining input.old) (R.remaining input.new) bytes) }
+{
+    match read_number(input)? {
+        Word::Number(count) if count <= most => Ok(Some(count)),
+        Word::Nothing => Ok(None),
+        Word::Number(_) | Word::Cut => Err(Stop::Bad),
+    }
+}
+
+// Whether a bundle goes on behind what came of a case; where that is none, it ends with its line.
+pub fn goes_on<W: Write>(out: &mut W, case: Result<bool, Stop>) -> io::Result<bool>
+    ensures answered { IfOk case (λ more. result ≡ Ok more) }
+    ensures no_more { case ≡ Err Stop.Bad → IfOk result (λ more. more ≡ false) }
+    ensures written { case ≡ Err Stop.Bad
+        → Written (W.contents out.old) (W.contents out.new) result (codes "bad bundle" ++ (10 ∷ [])) }
+    ensures failed { (error : _) → case ≡ Err (Stop.Failed error) → result ≡ Err error }
+{
+    match case {
+        Ok(more) => Ok(more),
+        Err(Stop::Bad) => bad_bundle(out),
+        Err(Stop::Failed(error)) => Err(error),
+    }
 }

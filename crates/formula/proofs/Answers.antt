@@ -9,14 +9,12 @@ use lib.ListN.{length}
 use borrow.Author.Tests.{ltb-false}
 use Rattle.refusal.specs.declared.Refusal.{Refusal}
 use Rattle.refusal.specs.declared.Refusal.TheVariants.{Pairs, Room}
-use Rattle.refusal.specs.declared.Checked.{Checked}
-use Rattle.refusal.specs.declared.Checked.TheVariants.{Passes, Refused as Fails}
+use Rattle.std.specs.Prelude.{Result, Ok, Err}
+use Rattle.refusal.specs.Rows.{Checked}
 use Rattle.refusal.specs.Rows.{checked, unless_refused, room_row}
 use Rattle.refusal.proofs.Rows.{passed-by}
 use Rattle.netlist.specs.Netlist.{Circuit}
 use Rattle.pairs.specs.Pairs.{pairs_for, pair_numbers, table_holds}
-use Rattle.formula.specs.declared.Built.{Built}
-use Rattle.formula.specs.declared.Built.TheVariants.{Formula, Refused}
 use Rattle.formula.specs.declared.Counts.{Counts}
 use Rattle.formula.specs.Promise.{
   refused,
@@ -28,33 +26,34 @@ use Rattle.formula.specs.Promise.{
 }
 
 module _ (circuit : Circuit) (target pairs_room formula_room : ℕ) where
-  module _ {answer : Built} (a : answer ≡ (building_of circuit target pairs_room formula_room).answer) where
+  module _ {answer : Result Counts Refusal}
+      (a : answer ≡ (building_of circuit target pairs_room formula_room).answer) where
     -- a refusal is theirs
-    pub answer-refused : {refusal : Refusal} → answer ≡ Refused refusal →
-        checked (building_rows circuit target pairs_room formula_room) ≡ Fails refusal
+    pub answer-refused : {refusal : Refusal} → answer ≡ Err refusal →
+        checked (building_rows circuit target pairs_room formula_room) ≡ Err refusal
     unfolding building_of built
     answer-refused {refusal} e = go (checked (building_rows circuit target pairs_room formula_room)) (sym a ∙ e)
       where
         go : (c : Checked) →
             (unless_refused c (refused pairs_room formula_room) (built circuit target pairs_room formula_room)).answer
-            ≡ Refused refusal → c ≡ Fails refusal
-        go Passes e = let w : ◌≡◌ {A = ℕ} 0 1 = cc in absurd (omega arith)
-        go (Fails r) e = cc
+            ≡ Err refusal → c ≡ Err refusal
+        go (Ok tt) e = let w : ◌≡◌ {A = ℕ} 0 1 = cc in absurd (omega arith)
+        go (Err r) e = cc
 
     -- with counts they are passed, and the counts are the list's
-    pub answer-counts : {counts : Counts} → answer ≡ Formula counts →
-        (checked (building_rows circuit target pairs_room formula_room) ≡ Passes) × (counts ≡ counts_for circuit target)
+    pub answer-counts : {counts : Counts} → answer ≡ Ok counts →
+        (checked (building_rows circuit target pairs_room formula_room) ≡ Ok tt) × (counts ≡ counts_for circuit target)
     unfolding building_of built
     answer-counts {counts} e = go (checked (building_rows circuit target pairs_room formula_room)) (sym a ∙ e)
       where
         go : (c : Checked) →
             (unless_refused c (refused pairs_room formula_room) (built circuit target pairs_room formula_room)).answer
-            ≡ Formula counts → (c ≡ Passes) × (counts ≡ counts_for circuit target)
-        go Passes e = (refl, cc)
-        go (Fails r) e = let w : ◌≡◌ {A = ℕ} 0 1 = cc in absurd (omega arith)
+            ≡ Ok counts → (c ≡ Ok tt) × (counts ≡ counts_for circuit target)
+        go (Ok tt) e = (refl, cc)
+        go (Err r) e = let w : ◌≡◌ {A = ℕ} 0 1 = cc in absurd (omega arith)
 
   -- where they are passed, the pairs fit the table and the numbers the slice
-  module _ (e : checked (building_rows circuit target pairs_room formula_room) ≡ Passes) where
+  module _ (e : checked (building_rows circuit target pairs_room formula_room) ≡ Ok tt) where
     pub passed-built : building_of circuit target pairs_room formula_room ≡ built circuit target pairs_room formula_room
     unfolding building_of
     passed-built =

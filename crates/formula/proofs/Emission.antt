@@ -12,7 +12,8 @@ use Rattle.netlist.proofs.Ranges.{up_from-append}
 use Rattle.clauses.specs.Codes.{written}
 use Rattle.clauses.proofs.Written.{written-append, written-length}
 use Rattle.formula.specs.declared.Emitted.{Emitted}
-use Rattle.formula.specs.Emission.{Token, coded, ended, token_code, ends, Emits, Fits}
+use Rattle.formula.specs.declared.Writer.{Writer}
+use Rattle.formula.specs.Emission.{Token, coded, ended, token_code, ends, Emits, Puts, Fits}
 
 ends-append : (xs ys : List Token) → ends (xs ++ ys) ≡ ends xs + ends ys
 ends-append [] ys = omega arith
@@ -111,3 +112,47 @@ module _ {each : ℕ} {run : ℕ → List Token} {i : ℕ} {before now : List �
 
   pub emitting-length : Emitting each run i before from now at → length now ≡ length before
   emitting-length b = emits-length b.emits
+
+-- ---- the same of a writer
+
+-- nothing was put
+pub puts_none : (w : Writer) → w.at.clauses ≤ w.at.numbers → Puts 0 [] w w
+puts_none w h = record { emits = emits_none w.formula.now w.at h; same = refl }
+
+module _ {most : ℕ} {xs : List Token} {from w : Writer} where
+  -- one run and then another
+  pub puts_then : {more : ℕ} {ys : List Token} {to : Writer} → Puts most xs from w → Puts more ys w to →
+      Puts (most + more) (xs ++ ys) from to
+  puts_then a b = record { emits = emits_then a.emits b.emits; same = b.same ∙ a.same }
+
+  -- the same tokens, and a larger bound
+  pub puts-as : {ys : List Token} (more : ℕ) → Puts most xs from w → xs ≡ ys → most ≤ more → Puts more ys from w
+  puts-as more a e h = record { emits = emits-as more a.emits e h; same = a.same }
+
+  -- the same tokens by another name
+  pub puts-by : {ys : List Token} → xs ≡ ys → Puts most xs from w → Puts most ys from w
+  puts-by e a = puts-as most a e (omega arith)
+
+-- the loop's invariant
+pub record Putting (each : ℕ) (run : ℕ → List Token) (i : ℕ) (from w : Writer) : Type 0 where
+  pub emitting : Emitting each run i from.formula.now from.at w.formula.now w.at
+  pub same : w.formula.ghost_name ≡ from.formula.ghost_name
+
+pub putting-starts : (each : ℕ) (run : ℕ → List Token) (w : Writer) → w.at.clauses ≤ w.at.numbers →
+    Putting each run 0 w w
+putting-starts each run w h = record { emitting = emitting-starts each run w.formula.now w.at h; same = refl }
+
+module _ {each : ℕ} {run : ℕ → List Token} {i : ℕ} {from w : Writer} where
+  pub putting-more : {to : Writer} → Putting each run i from w → Puts each (run i) w to →
+      Putting each run (i + 1) from to
+  putting-more b r = record { emitting = emitting-more b.emitting r.emits; same = r.same ∙ b.same }
+
+  -- after the last
+  pub putting-ends : (count most : ℕ) → Putting each run i from w → i ≤ count → count ≤ i → count * each ≤ most →
+      Puts most (concat_map run (up_from 0 count)) from w
+  putting-ends count most b l h m = record { emits = emitting-ends count most b.emitting l h m; same = b.same }
+
+  -- the next run fits
+  pub putting-fits : (count : ℕ) → Fits (count * each) from.at → Putting each run i from w → i < count →
+      Fits each w.at
+  putting-fits count f b h = emitting-fits count f b.emitting h

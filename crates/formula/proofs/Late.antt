@@ -10,15 +10,14 @@ use lib.ListN.{length, get_or, take}
 use borrow.Author.Tests.{lt-ltb, le-ltb, le-leb, lt-leb, ne_eqb}
 use Rattle.basics.specs.Lists.{any, concat_map}
 use Rattle.basics.proofs.Lists.{any_append, concat_map-append}
-use Rattle.netlist.specs.declared.Form.{Form}
-use Rattle.netlist.specs.declared.Form.TheVariants.{Single, RiseFall}
-use Rattle.netlist.specs.Netlist.{Pin, slopes_by}
+use Rattle.netlist.specs.Netlist.{Pin, Slopes, alike, apart}
 use Rattle.settle.specs.Settling.{Cube}
 use Rattle.pairs.specs.Pairs.{pair_place}
 use Rattle.pairs.specs.Table.{pairs_in}
 use Rattle.pairs.specs.Promise.{Lists, Findable}
 use Rattle.pairs.proofs.Flat.{pairs-flat}
 use Rattle.pairs.proofs.Closed.{place-below}
+use Rattle.formula.specs.declared.Source.{Source}
 use Rattle.formula.specs.Formula.{
   Part,
   sure,
@@ -35,7 +34,8 @@ use Rattle.formula.specs.declared.Asked.{Asked}
 use Rattle.formula.specs.declared.Share.TheVariants.{Control}
 use Rattle.formula.specs.Emission.{Token, ended, wants, tokens_of, code_run, literal_run, share_run, cube_run}
 use Rattle.formula.specs.Late.{
-  Lent,
+  shape_in,
+  nodes_in,
   part_code,
   part_run,
   top_in,
@@ -84,39 +84,39 @@ place_found {table} {rail} {t} f h =
 
 -- ---- the cases
 
-module _ {l : Lent} {node rail t : ℕ} where
-  pub late-input : node < l.shape.inputs → t ≤ top_in l.tops node → LateCode l node rail t 1
+module _ {l : Source} {node rail t : ℕ} where
+  pub late-input : node < (shape_in l).inputs → t ≤ top_in l.tops.now node → LateCode l node rail t 1
   unfolding late
   late-input h k =
       record {
-        is = rw (lt-ltb node l.shape.inputs h, le-leb t (top_in l.tops node) k);
+        is = rw (lt-ltb node (shape_in l).inputs h, le-leb t (top_in l.tops.now node) k);
         small = omega arith;
       }
 
-  pub late-input-not : node < l.shape.inputs → top_in l.tops node < t → LateCode l node rail t 0
+  pub late-input-not : node < (shape_in l).inputs → top_in l.tops.now node < t → LateCode l node rail t 0
   unfolding late
   late-input-not h k =
       record {
-        is = rw (lt-ltb node l.shape.inputs h, lt-leb t (top_in l.tops node) k);
+        is = rw (lt-ltb node (shape_in l).inputs h, lt-leb t (top_in l.tops.now node) k);
         small = omega arith;
       }
 
-  pub late-zero : l.shape.inputs ≤ node → t ≡ 0 → LateCode l node rail t 1
+  pub late-zero : (shape_in l).inputs ≤ node → t ≡ 0 → LateCode l node rail t 1
   unfolding late
   late-zero h e =
       let k : t ≤ 0 = omega arith in
-      record { is = rw (le-ltb node l.shape.inputs h, le-leb t 0 k); small = omega arith }
+      record { is = rw (le-ltb node (shape_in l).inputs h, le-leb t 0 k); small = omega arith }
 
-  pub late-beyond : l.shape.inputs ≤ node → 0 < t → top_in l.tops node < t → LateCode l node rail t 0
+  pub late-beyond : (shape_in l).inputs ≤ node → 0 < t → top_in l.tops.now node < t → LateCode l node rail t 0
   unfolding late
   late-beyond h p k =
       record {
-        is = rw (le-ltb node l.shape.inputs h, lt-leb t 0 p, lt-leb t (top_in l.tops node) k);
+        is = rw (le-ltb node (shape_in l).inputs h, lt-leb t 0 p, lt-leb t (top_in l.tops.now node) k);
         small = omega arith;
       }
 
-  pub late-pair : {place : ℕ} → Slices l → l.shape.inputs ≤ node → 0 < t → t ≤ top_in l.tops node →
-      PlaceFound l.table rail t place → LateCode l node rail t ((l.shape.inputs + l.shape.gates + place + 1) * 2)
+  pub late-pair : {place : ℕ} → Slices l → (shape_in l).inputs ≤ node → 0 < t → t ≤ top_in l.tops.now node →
+      PlaceFound l.table.now rail t place → LateCode l node rail t ((nodes_in l + place + 1) * 2)
   unfolding late variable_in
   late-pair {place} s h p k f =
       let nodes = s.nodes-few in
@@ -125,7 +125,7 @@ module _ {l : Lent} {node rail t : ℕ} where
       let below = f.below in
       record {
         is =
-            rw (le-ltb node l.shape.inputs h, lt-leb t 0 p, le-leb t (top_in l.tops node) k) (omega arith);
+            rw (le-ltb node (shape_in l).inputs h, lt-leb t 0 p, le-leb t (top_in l.tops.now node) k) (omega arith);
         small = omega arith;
       }
 
@@ -158,13 +158,13 @@ or-none : (b : Bool) → (b || false) ≡ b
 or-none true = refl
 or-none false = refl
 
-module _ (l : Lent) (node t : ℕ) where
+module _ (l : Source) (node t : ℕ) where
   -- what holds of true and of false outright and of literals of variables above 0 holds of lateness at t by a rail, and
   -- by two: a node that is late outright is so by each of its rails
   late-any : (rail : ℕ) (P : Part ℕ → Type 0) → P sure → P never → ((n : ℕ) → P (literal true (suc n))) →
       P (late_in l node rail t)
   unfolding late variable_in
-  late-any rail P a b c = go (ltb node l.shape.inputs) (leb t (get_or l.tops node 0)) (leb t 0) _
+  late-any rail P a b c = go (ltb node (shape_in l).inputs) (leb t (get_or l.tops.now node 0)) (leb t 0) _
     where
       go : (x y z : Bool) (n : ℕ) → P (cond x (cond y sure never) (cond z sure (cond y (literal true (suc n)) never)))
       go true true z n = a
@@ -176,7 +176,7 @@ module _ (l : Lent) (node t : ℕ) where
   late-two : (rail other : ℕ) (P : Part ℕ → Part ℕ → Type 0) → P sure sure → P never never →
       ((n m : ℕ) → P (literal true (suc n)) (literal true (suc m))) → P (late_in l node rail t) (late_in l node other t)
   unfolding late variable_in
-  late-two rail other P a b c = go (ltb node l.shape.inputs) (leb t (get_or l.tops node 0)) (leb t 0) _ _
+  late-two rail other P a b c = go (ltb node (shape_in l).inputs) (leb t (get_or l.tops.now node 0)) (leb t 0) _ _
     where
       go : (x y z : Bool) (n m : ℕ) →
           P (cond x (cond y sure never) (cond z sure (cond y (literal true (suc n)) never)))
@@ -188,25 +188,25 @@ module _ (l : Lent) (node t : ℕ) where
       go false false false n m = b
 
   -- the first code is 1 exactly where the node is late outright
-  pub late-sure : (form : Form) (falls : List ℕ) →
-      eqb (asked_by form l node t).late 1 ≡ any is_sure (node_late_in l (slopes_by form falls) node t)
+  pub late-sure : (slopes : Slopes) →
+      eqb (asked_by slopes l node t).late 1 ≡ any is_sure (node_late_in l slopes node t)
   unfolding late
-  late-sure Single falls =
+  late-sure alike =
       late-any node (λ p. eqb (part_code p) 1 ≡ (is_sure p || false)) refl refl
       (λ n. ne_eqb (suc n * 2) 1 (λ e. absurd (omega arith)))
-  late-sure RiseFall falls =
+  late-sure (apart falls) =
       late-two (node * 2) (node * 2 + 1) (λ p q. eqb (part_code p) 1 ≡ (is_sure p || (is_sure q || false))) refl refl
       (λ n m. ne_eqb (suc n * 2) 1 (λ e. absurd (omega arith)))
 
   -- the run of the codes is that of the parts
-  pub late-run : (form : Form) (falls : List ℕ) →
-      code_run true (asked_by form l node t).late ++ code_run true (asked_by form l node t).more
-      ≡ concat_map part_run (node_late_in l (slopes_by form falls) node t)
+  pub late-run : (slopes : Slopes) →
+      code_run true (asked_by slopes l node t).late ++ code_run true (asked_by slopes l node t).more
+      ≡ concat_map part_run (node_late_in l slopes node t)
   unfolding late
-  late-run Single falls =
+  late-run alike =
       late-any node (λ p. code_run true (part_code p) ++ code_run true 0 ≡ part_run p ++ []) refl refl
       (λ n. rw (le-ltb (suc n * 2) 2 (omega arith), halved (suc n)))
-  late-run RiseFall falls =
+  late-run (apart falls) =
       late-two (node * 2) (node * 2 + 1)
       (λ p q. code_run true (part_code p) ++ code_run true (part_code q) ≡ part_run p ++ (part_run q ++ [])) refl refl
       (λ n m. two-codes n m)
@@ -216,34 +216,34 @@ module _ (l : Lent) (node t : ℕ) where
       two-codes n m =
           rw (le-ltb (suc n * 2) 2 (omega arith), le-ltb (suc m * 2) 2 (omega arith), halved (suc n), halved (suc m))
 
-  pub asked-node : (form : Form) → (asked_by form l node t).node ≡ node
-  asked-node Single = refl
-  asked-node RiseFall = refl
+  pub asked-node : (slopes : Slopes) → (asked_by slopes l node t).node ≡ node
+  asked-node alike = refl
+  asked-node (apart falls) = refl
 
 -- ---- a controlling cube
 
-module _ (l : Lent) (form : Form) (falls : List ℕ) (t : ℕ) where
+module _ (l : Source) (slopes : Slopes) (t : ℕ) where
   -- what is known of the driver of a cube's literal
   abbrev of_literal : Pin × Bool → Asked
-  of_literal x = asked_by form l x.0.driver (t - x.0.delay)
+  of_literal x = asked_by slopes l x.0.driver (t - x.0.delay)
 
   abbrev parts_of : Pin × Bool → List (Part ℕ)
-  parts_of = cube_parts (slopes_by form falls) l.shape.inputs (top_in l.tops) node_variable (variable_in l) t
+  parts_of = cube_parts slopes (shape_in l).inputs (top_in l.tops.now) node_variable (variable_in l) t
 
   literal-sure : (x : Pin × Bool) → any is_sure (parts_of x) ≡ eqb (of_literal x).late 1
   literal-sure x =
-      let parts = node_late_in l (slopes_by form falls) x.0.driver (t - x.0.delay) in
+      let parts = node_late_in l slopes x.0.driver (t - x.0.delay) in
       any_append is_sure parts (literal (not x.1) (suc x.0.driver) ∷ [])
       ∙ or-none (any is_sure parts)
-      ∙ sym (late-sure l x.0.driver (t - x.0.delay) form falls)
+      ∙ sym (late-sure l x.0.driver (t - x.0.delay) slopes)
 
   literal-run : (x : Pin × Bool) → concat_map part_run (parts_of x) ≡ literal_run (of_literal x) x.1
   literal-run x =
-      let parts = node_late_in l (slopes_by form falls) x.0.driver (t - x.0.delay) in
+      let parts = node_late_in l slopes x.0.driver (t - x.0.delay) in
       concat_map-append part_run parts (literal (not x.1) (suc x.0.driver) ∷ [])
       ∙ ap₂ (λ (a : List Token) (n : ℕ). a ++ (wants (not x.1, n) ∷ []))
-      (sym (late-run l x.0.driver (t - x.0.delay) form falls))
-      (sym (add-one x.0.driver) ∙ ap (λ (n : ℕ). n + 1) (sym (asked-node l x.0.driver (t - x.0.delay) form)))
+      (sym (late-run l x.0.driver (t - x.0.delay) slopes))
+      (sym (add-one x.0.driver) ∙ ap (λ (n : ℕ). n + 1) (sym (asked-node l x.0.driver (t - x.0.delay) slopes)))
 
   cube-sure : (cube : Cube Pin) → any is_sure (concat_map parts_of cube) ≡ any (λ x. eqb (of_literal x).late 1) cube
   cube-sure [] = refl
@@ -262,7 +262,7 @@ module _ (l : Lent) (form : Form) (falls : List ℕ) (t : ℕ) where
   cube-tokens : (own : ℕ) (cube : Cube Pin) →
       cond (any (λ x. eqb (of_literal x).late 1) cube) []
       ((wants (false, own) ∷ concat_map (λ x. literal_run (of_literal x) x.1) cube) ++ (ended ∷ []))
-      ≡ control_in l (slopes_by form falls) own t cube
+      ≡ control_in l slopes own t cube
   cube-tokens own cube =
       ap₂ (λ (b : Bool) (r : List Token). cond b [] ((wants (false, own) ∷ r) ++ (ended ∷ []))) (sym (cube-sure cube))
       (sym (cube-run cube))
@@ -270,7 +270,7 @@ module _ (l : Lent) (form : Form) (falls : List ℕ) (t : ℕ) where
 
   -- of one literal, as for a simple gate
   pub one-literal : (c k : Bool) (own : ℕ) (p : Pin) →
-      share_run Control c k own (of_literal (p, c)) ≡ control_in l (slopes_by form falls) own t ((p, c) ∷ [])
+      share_run Control c k own (of_literal (p, c)) ≡ control_in l slopes own t ((p, c) ∷ [])
   one-literal c k own p =
       let driver = of_literal (p, c) in
       ap₂ (λ (b : Bool) (r : List Token). cond b [] ((wants (false, own) ∷ r) ++ (ended ∷ [])))
@@ -280,7 +280,7 @@ module _ (l : Lent) (form : Form) (falls : List ℕ) (t : ℕ) where
   -- of two
   pub two-literals : (own : ℕ) (p : Pin) (a : Bool) (q : Pin) (b : Bool) →
       cube_run own (of_literal (p, a)) a (of_literal (q, b)) b
-      ≡ control_in l (slopes_by form falls) own t ((p, a) ∷ (q, b) ∷ [])
+      ≡ control_in l slopes own t ((p, a) ∷ (q, b) ∷ [])
   two-literals own p a q b =
       let x = of_literal (p, a) in
       let y = of_literal (q, b) in

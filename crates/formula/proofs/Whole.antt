@@ -18,19 +18,19 @@ use lib.ListN.{length, get_or, length-append}
 use borrow.Author.Tests.{eq-eqb, ne_eqb}
 use Rattle.basics.specs.Lists.{concat_map, up_from, numbered}
 use Rattle.basics.proofs.Lists.{concat_map-append}
-use Rattle.netlist.specs.declared.Form.{Form}
-use Rattle.netlist.specs.declared.Form.TheVariants.{Single, RiseFall}
 use Rattle.netlist.specs.declared.Shape.{Shape}
-use Rattle.netlist.specs.Netlist.{Cell, nodes, Slopes, alike, apart, slopes_by, pins_for, Circuit}
-use Rattle.netlist.specs.File.{cell_at, netlist_at, circuit_with}
+use Rattle.netlist.specs.declared.circuit.Accepted.{Accepted}
+use Rattle.netlist.specs.Netlist.{Cell, nodes, Slopes, alike, apart, slopes_of, pins_for, Circuit}
+use Rattle.netlist.specs.File.{cell_at, netlist_at}
+use Rattle.netlist.specs.Accepts.{circuit_in}
 use Rattle.netlist.proofs.Entries.{node-count, node-only}
 use Rattle.clauses.specs.Clauses.{Literal}
 use Rattle.settle.specs.Settling.{top_of}
 use Rattle.pairs.specs.Rails.{Rail, rails_at, rail_count, rail_cells}
 use Rattle.pairs.specs.Pairs.{pair_list, times_for, pairs_for, pair_place}
 use Rattle.pairs.specs.Table.{pairs_in}
-use Rattle.pairs.specs.Promise.{pairs_at}
 use Rattle.pairs.proofs.Flat.{pairs-flat, pairs-length}
+use Rattle.formula.specs.declared.Source.{Source}
 use Rattle.formula.specs.Formula.{
   clause_of,
   gate_clauses,
@@ -43,7 +43,6 @@ use Rattle.formula.specs.Formula.{
 }
 use Rattle.formula.specs.Emission.{Token, tokens_of, cell_run, rail_value}
 use Rattle.formula.specs.Late.{
-  Lent,
   pairs_count,
   variable_in,
   clauses_in,
@@ -54,7 +53,7 @@ use Rattle.formula.specs.Late.{
   whole_run,
 }
 use Rattle.formula.proofs.Gates.{tokens_append, tokens-concat_map}
-use Rattle.formula.proofs.Table.{table_at, lent_at}
+use Rattle.formula.proofs.Table.{table_at, source_at}
 
 -- ---- lists of runs
 
@@ -124,21 +123,21 @@ by-gate {A} {B} F f n a (suc k) =
 
 -- ---- the formula of an accepted file
 
-module _ (file : List ℕ) (shape : Shape) (falls : List ℕ) where
+module _ (file : List ℕ) (shape : Shape) where
   -- a gate's rail is the one that has its number
-  rail-back : (form : Form) (i : ℕ) (r : Rail) →
-      Memᴰ r (rails_at (slopes_by form falls) (shape.inputs + i, cell_at file shape i)) →
-      rail_at file shape form falls r.number ≡ r
-  rail-back Single i r (Memᴰ.tail none) = elim none [ ]
-  rail-back Single i r (Memᴰ.head e) =
+  rail-back : (slopes : Slopes) (i : ℕ) (r : Rail) →
+      Memᴰ r (rails_at slopes (shape.inputs + i, cell_at file shape i)) →
+      rail_at file shape slopes r.number ≡ r
+  rail-back alike i r (Memᴰ.tail none) = elim none [ ]
+  rail-back alike i r (Memᴰ.head e) =
       let d : shape.inputs + i - shape.inputs ≡ i = omega arith in
-      ap (λ (x : Rail). rail_at file shape Single falls x.number) e
+      ap (λ (x : Rail). rail_at file shape alike x.number) e
       ∙ ap (λ (n : ℕ). one (shape.inputs + i) (cell_at file shape n)) d
       ∙ sym e
     where
       one : ℕ → Cell → Rail
       one n g = record { number = n; node = n; fixes = []; kind = g.kind; pins = g.pins }
-  rail-back RiseFall i r m = go m
+  rail-back (apart falls) i r m = go m
     where
       made : ℕ → ℕ → Bool → Cell → Rail
       made number n v g =
@@ -151,19 +150,19 @@ module _ (file : List ℕ) (shape : Shape) (falls : List ℕ) where
           }
 
       back : (number : ℕ) (v : Bool) → number / 2 ≡ shape.inputs + i → rail_value number ≡ v →
-          rail_at file shape RiseFall falls number ≡ made number (shape.inputs + i) v (cell_at file shape i)
+          rail_at file shape (apart falls) number ≡ made number (shape.inputs + i) v (cell_at file shape i)
       back number v h e =
           let d : shape.inputs + i - shape.inputs ≡ i = omega arith in
           ap₂ (λ (n : ℕ) (w : Bool). made number n w (cell_at file shape (n - shape.inputs))) h e
           ∙ ap (λ (n : ℕ). made number (shape.inputs + i) v (cell_at file shape n)) d
 
       go : Memᴰ r (rails_at (apart falls) (shape.inputs + i, cell_at file shape i)) →
-          rail_at file shape RiseFall falls r.number ≡ r
+          rail_at file shape (apart falls) r.number ≡ r
       go (Memᴰ.head e) =
           let n = (shape.inputs + i) * 2 in
           let h : n / 2 ≡ shape.inputs + i = omega arith in
           let v : n % 2 ≡ 0 = omega arith in
-          ap (λ (x : Rail). rail_at file shape RiseFall falls x.number) e
+          ap (λ (x : Rail). rail_at file shape (apart falls) x.number) e
           ∙ back n false h (ne_eqb (n % 2) 1 (λ z. absurd (omega arith)))
           ∙ sym e
       go (Memᴰ.tail (Memᴰ.tail none)) = elim none [ ]
@@ -171,59 +170,70 @@ module _ (file : List ℕ) (shape : Shape) (falls : List ℕ) where
           let n = (shape.inputs + i) * 2 + 1 in
           let h : n / 2 ≡ shape.inputs + i = omega arith in
           let v : n % 2 ≡ 1 = omega arith in
-          ap (λ (x : Rail). rail_at file shape RiseFall falls x.number) e
+          ap (λ (x : Rail). rail_at file shape (apart falls) x.number) e
           ∙ back n true h (eq-eqb (n % 2) 1 v)
           ∙ sym e
 
-module _ (file : List ℕ) (shape : Shape) (arrivals : List ℕ) (form : Form) (falls : List ℕ) (target : ℕ) where
-  abbrev circuit : Circuit
-  circuit = circuit_with file shape arrivals (slopes_by form falls)
+module _ (l : Source) (target : ℕ) where
+  abbrev a : Accepted
+  a = l.accepted
 
-  abbrev put : Lent
-  put = lent_at file shape arrivals form falls target
+  abbrev file : List ℕ
+  file = a.file.now
+
+  abbrev shape : Shape
+  shape = a.shape
+
+  abbrev slopes : Slopes
+  slopes = slopes_of a.form
+
+  abbrev circuit : Circuit
+  circuit = circuit_in a
+
+  abbrev put : Source
+  put = source_at l target
 
   -- a pair's variable by the table
   variables : variable_in put ≡ pair_variable circuit target
   unfolding variable_in pair_variable
   variables =
       let after : ℕ → List (ℕ × ℕ) → ℕ → ℕ → ℕ = λ n l f t. suc (n + pair_place f t l) in
-      ap₂ after (sym (node-count file shape)) (pairs-flat (pairs_at file shape arrivals (slopes_by form falls) target))
+      ap₂ after (sym (node-count file shape)) (pairs-flat (pairs_for circuit target))
 
   -- a rail's pair
   abbrev of_rail : Rail → ℕ → List (List Literal)
-  of_rail = pair_clauses (slopes_by form falls) shape.inputs (top_of circuit) node_variable (variable_in put)
+  of_rail = pair_clauses slopes shape.inputs (top_of circuit) node_variable (variable_in put)
 
   -- all pairs of a rail, and of a gate
   abbrev of_times : Rail → List (List Literal)
   of_times r = concat_map (of_rail r) (times_for circuit target r.number)
 
   abbrev of_gate : ℕ × Cell → List (List Literal)
-  of_gate x = concat_map of_times (rails_at (slopes_by form falls) x)
+  of_gate x = concat_map of_times (rails_at slopes x)
 
   -- what is put for a rail of a gate
   rail-put : (x : ℕ × Cell) → Memᴰ x (nodes (netlist_at file shape)) → (r : Rail) →
-      Memᴰ r (rails_at (slopes_by form falls) x) →
-      concat_map (λ t. run_of file put form falls (r.number, t)) (times_for circuit target r.number)
+      Memᴰ r (rails_at slopes x) →
+      concat_map (λ t. run_of put (r.number, t)) (times_for circuit target r.number)
       ≡ tokens_of (of_times r)
   rail-put x m r j =
       let w = node-only file shape x m in
-      let e = rail-back file shape falls form w.0 r
-      (subst (λ (y : ℕ × Cell). Memᴰ r (rails_at (slopes_by form falls) y)) w.2 j) in
-      ap (λ (s : Rail). concat_map (clauses_in put (slopes_by form falls) s) (times_for circuit target r.number)) e
+      let e = rail-back file shape slopes w.0 r
+      (subst (λ (y : ℕ × Cell). Memᴰ r (rails_at slopes y)) w.2 j) in
+      ap (λ (s : Rail). concat_map (clauses_in put slopes s) (times_for circuit target r.number)) e
       ∙ sym (tokens-concat_map (of_rail r) (times_for circuit target r.number))
 
-  pairs-put : concat_map (pair_run file put form falls) (up_from 0 (pairs_count put))
+  pairs-put : concat_map (pair_run put) (up_from 0 (pairs_count put))
       ≡ tokens_of (concat_map of_gate (nodes (netlist_at file shape)))
   unfolding pairs_for pair_list
   pairs-put =
       let net = netlist_at file shape in
-      let slopes = slopes_by form falls in
       let times = times_for circuit target in
-      let pairs = pairs_at file shape arrivals slopes target in
-      let run = run_of file put form falls in
+      let pairs = pairs_for circuit target in
+      let run = run_of put in
       let of_number : ℕ → List Token = λ n. concat_map (λ t. run (n, t)) (times n) in
-      by_number run (0, 0) (pairs_in (table_at file shape arrivals form falls target)) (pairs_count put)
-      (sym (pairs-length (table_at file shape arrivals form falls target)))
+      by_number run (0, 0) (pairs_in (table_at a target)) (pairs_count put)
+      (sym (pairs-length (table_at a target)))
       ∙ ap (concat_map run) (pairs-flat pairs)
       ∙ within-each run (λ y. map (λ t. (y.0, t)) (times y.0))
       (numbered (rail_count slopes net.inputs) (rail_cells slopes net.gates))
@@ -249,11 +259,10 @@ module _ (file : List ℕ) (shape : Shape) (arrivals : List ℕ) (form : Form) (
       (nodes (netlist_at file shape)))
 
   -- 1, 2 and 3 in order
-  pub whole-tokens : whole_run file put form falls target ≡ tokens_of (formula_for circuit target)
+  pub whole-tokens : whole_run put target ≡ tokens_of (formula_for circuit target)
   unfolding formula_for formula netlist_at
   whole-tokens =
       let net = netlist_at file shape in
-      let slopes = slopes_by form falls in
       let of_cells : List (List Literal) =
       concat_map (λ x. gate_clauses node_variable x.1.kind x.1.pins x.0) (nodes net) in
       let of_pairs : List (List Literal) = concat_map of_gate (nodes net) in

@@ -28,7 +28,7 @@ use Rattle.netlist.specs.Edges.{written}
 use Rattle.settle.specs.Settling.{grow, tops_of}
 use Rattle.clauses.specs.Clauses.{flat}
 use Rattle.pairs.specs.Pairs.{asked, times_at, pair_list, flat_pairs, lent_pairs, pairs_for, pair_place, table_holds}
-use Rattle.formula.specs.declared.Built.TheVariants.{Formula}
+use Rattle.std.specs.Prelude.{Ok}
 use Rattle.formula.specs.Formula.{clause_of, gate_clauses, late, pair_clauses, formula, pair_variable, formula_for}
 use Rattle.formula.specs.Promise.{
   Building,
@@ -61,7 +61,7 @@ builds file falls target variables clauses pairs numbers =
       leaves =
           record {
             answer =
-                Formula
+                Ok
                 (record {
                   variables = variables;
                   pairs = length pairs / 3;

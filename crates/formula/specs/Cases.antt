@@ -25,7 +25,7 @@ use Rattle.netlist.specs.Example.{circuit_a}
 use Rattle.settle.specs.Settling.{grow, tops_of}
 use Rattle.clauses.specs.Clauses.{flat}
 use Rattle.pairs.specs.Pairs.{asked, times_at, pair_list, flat_pairs, lent_pairs, pairs_for, pair_place}
-use Rattle.formula.specs.declared.Built.TheVariants.{Formula, Refused}
+use Rattle.std.specs.Prelude.{Ok, Err}
 use Rattle.formula.specs.Formula.{clause_of, gate_clauses, late, pair_clauses, formula, pair_variable, formula_for}
 use Rattle.formula.specs.Promise.{Building, numbers_for, counts_for, built, building_rows, building}
 use Rattle.formula.specs.Example.{printed}
@@ -56,7 +56,7 @@ cases =
       formula_room = 48;
       leaves =
           record {
-            answer = Formula (record { variables = 8; pairs = 3; clauses = 15; numbers = 48 });
+            answer = Ok (record { variables = 8; pairs = 3; clauses = 15; numbers = 48 });
             pairs = 2 ∷ 1 ∷ 3 ∷ 2 ∷ 4 ∷ 3 ∷ [];
             formula = printed;
           };
@@ -67,7 +67,7 @@ cases =
       formula_room = 50;
       leaves =
           record {
-            answer = Formula (record { variables = 8; pairs = 3; clauses = 15; numbers = 48 });
+            answer = Ok (record { variables = 8; pairs = 3; clauses = 15; numbers = 48 });
             pairs = 2 ∷ 1 ∷ 3 ∷ 2 ∷ 4 ∷ 3 ∷ 0 ∷ [];
             formula = printed ++ (pos 0 ∷ pos 0 ∷ []);
           };
@@ -78,7 +78,7 @@ cases =
       formula_room = 27;
       leaves =
           record {
-            answer = Formula (record { variables = 5; pairs = 0; clauses = 9; numbers = 27 });
+            answer = Ok (record { variables = 5; pairs = 0; clauses = 9; numbers = 27 });
             pairs = [];
             formula = gate_lines ++ (pos 0 ∷ []);
           };
@@ -89,7 +89,7 @@ cases =
       formula_room = 47;
       leaves =
           record {
-            answer = Refused (Room 48);
+            answer = Err (Room 48);
             pairs = replicate 6 0;
             formula = replicate 47 (pos 0);
           };
@@ -100,7 +100,7 @@ cases =
       formula_room = 48;
       leaves =
           record {
-            answer = Refused Pairs;
+            answer = Err Pairs;
             pairs = replicate 5 0;
             formula = replicate 48 (pos 0);
           };

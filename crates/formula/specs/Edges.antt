@@ -29,7 +29,7 @@ use Rattle.settle.specs.Settling.{grow, tops_of}
 use Rattle.settle.specs.Cases.{xor_twice, mux_of_three}
 use Rattle.clauses.specs.Clauses.{flat}
 use Rattle.pairs.specs.Pairs.{asked, times_at, pair_list, flat_pairs, lent_pairs, pairs_for, pair_place, table_holds}
-use Rattle.formula.specs.declared.Built.TheVariants.{Formula}
+use Rattle.std.specs.Prelude.{Ok}
 use Rattle.formula.specs.Formula.{clause_of, gate_clauses, late, pair_clauses, formula, pair_variable, formula_for}
 use Rattle.formula.specs.Promise.{
   Building,
@@ -73,7 +73,7 @@ builds_with file arrivals target variables clauses pairs numbers =
       leaves =
           record {
             answer =
-                Formula
+                Ok
                 (record {
                   variables = variables;
                   pairs = length pairs / 2;

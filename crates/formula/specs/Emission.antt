@@ -29,13 +29,12 @@ use Rattle.std.specs.Prelude.{
 use Rattle.basics.specs.Lists.{concat_map, up_from}
 use Rattle.netlist.specs.declared.Kind.{Kind}
 use Rattle.netlist.specs.declared.Kind.TheVariants.{Simple, Parity, Mux}
-use Rattle.netlist.specs.Netlist.{Cell}
+use Rattle.netlist.specs.Netlist.{Cell, Slopes, alike, apart}
 use Rattle.clauses.specs.Clauses.{Literal}
 use Rattle.clauses.specs.Codes.{literal_code, written}
-use Rattle.netlist.specs.declared.Form.{Form}
-use Rattle.netlist.specs.declared.Form.TheVariants.{Single, RiseFall}
 use Rattle.formula.specs.declared.Asked.{Asked}
 use Rattle.formula.specs.declared.Emitted.{Emitted}
+use Rattle.formula.specs.declared.Writer.{Writer}
 use Rattle.formula.specs.declared.Share.{Share}
 use Rattle.formula.specs.declared.Share.TheVariants.{Forced, Driver, Control}
 use Rattle.formula.specs.Formula.{node_variable, gate_clauses}
@@ -73,6 +72,11 @@ pub record Emits (most : ℕ) (tokens : List Token) (before : List ℤ) (from : 
   pub clauses : to.clauses ≡ from.clauses + ends tokens
   pub few : to.numbers ≤ from.numbers + most
   pub fewer : to.clauses ≤ to.numbers
+
+-- the same of a writer, which keeps its slice
+pub record Puts (most : ℕ) (tokens : List Token) (from to : Writer) : Type 0 where
+  pub emits : Emits most tokens from.formula.now from.at to.formula.now to.at
+  pub same : to.formula.ghost_name ≡ from.formula.ghost_name
 
 -- before the first number
 abbrev pub start : Emitted
@@ -127,16 +131,11 @@ code_run wanted code = cond (ltb code 2) [] (wants (wanted, code / 2) ∷ [])
 abbrev pub node_is : ℕ → Bool → Literal
 node_is node wanted = (wanted, node + 1)
 
--- how many codes so many drivers have: each one, or one for each final value. So many rails have so many nodes too
-abbrev pub rails_for : Form → ℕ → ℕ
-rails_for Single count = count
-rails_for RiseFall count = count * 2
-
 -- what was stored of driver i: its node and the codes of its being late, the second one 0, for no literal, where there
 -- is but one
-abbrev pub stored_at : Form → List ℕ → List ℕ → ℕ → Asked
-stored_at Single nodes lates i = record { node = get_or nodes i 0; late = get_or lates i 0; more = 0 }
-stored_at RiseFall nodes lates i =
+abbrev pub stored_at : Slopes → List ℕ → List ℕ → ℕ → Asked
+stored_at alike nodes lates i = record { node = get_or nodes i 0; late = get_or lates i 0; more = 0 }
+stored_at (apart falls) nodes lates i =
     record { node = get_or nodes i 0; late = get_or lates (i * 2) 0; more = get_or lates (i * 2 + 1) 0 }
 
 -- a literal of a controlling cube: its driver late, by the codes, or the driver not at the literal's value
@@ -158,31 +157,31 @@ cube_run own x a y b =
     ((((wants (false, own) ∷ []) ++ literal_run x a) ++ literal_run y b) ++ (ended ∷ []))
 
 -- that of entries i and j, by what was stored of them
-abbrev pub pair_of_pins : Form → ℕ → List ℕ → List ℕ → ℕ → Bool → ℕ → Bool → List Token
-pair_of_pins form own nodes lates i a j b =
-    cube_run own (stored_at form nodes lates i) a (stored_at form nodes lates j) b
+abbrev pub pair_of_pins : Slopes → ℕ → List ℕ → List ℕ → ℕ → Bool → ℕ → Bool → List Token
+pair_of_pins slopes own nodes lates i a j b =
+    cube_run own (stored_at slopes nodes lates i) a (stored_at slopes nodes lates j) b
 
 -- entry x at a and entry y at 0, then x at b and y at 1
-abbrev pub two_cubes : Form → ℕ → List ℕ → List ℕ → ℕ → Bool → Bool → ℕ → List Token
-two_cubes form own nodes lates x a b y =
-    pair_of_pins form own nodes lates x a y false ++ pair_of_pins form own nodes lates x b y true
+abbrev pub two_cubes : Slopes → ℕ → List ℕ → List ℕ → ℕ → Bool → Bool → ℕ → List Token
+two_cubes slopes own nodes lates x a b y =
+    pair_of_pins slopes own nodes lates x a y false ++ pair_of_pins slopes own nodes lates x b y true
 
 -- a multiplexer's controlling cubes, of select, a and b (rule K6)
-abbrev pub mux_run : Form → ℕ → List ℕ → List ℕ → List Token
-mux_run form own nodes lates =
-    (two_cubes form own nodes lates 0 false false 1 ++ two_cubes form own nodes lates 0 true true 2)
-    ++ two_cubes form own nodes lates 1 false true 2
+abbrev pub mux_run : Slopes → ℕ → List ℕ → List ℕ → List Token
+mux_run slopes own nodes lates =
+    (two_cubes slopes own nodes lates 0 false false 1 ++ two_cubes slopes own nodes lates 0 true true 2)
+    ++ two_cubes slopes own nodes lates 1 false true 2
 
 -- what so many drivers add, by what was stored of them
-abbrev pub shares_run : Form → Share → Bool → Bool → ℕ → List ℕ → List ℕ → ℕ → List Token
-shares_run form share c k own nodes lates count =
-    concat_map (λ i. share_run share c k own (stored_at form nodes lates i)) (up_from 0 count)
+abbrev pub shares_run : Slopes → Share → Bool → Bool → ℕ → List ℕ → List ℕ → ℕ → List Token
+shares_run slopes share c k own nodes lates count =
+    concat_map (λ i. share_run share c k own (stored_at slopes nodes lates i)) (up_from 0 count)
 
 -- the clauses of what controls a gate of a kind
-abbrev pub control_run : Form → Kind → ℕ → List ℕ → List ℕ → ℕ → List Token
-control_run form (Simple c k) own nodes lates count = shares_run form Control c false own nodes lates count
-control_run form (Parity equal) own nodes lates count = []
-control_run form Mux own nodes lates count = mux_run form own nodes lates
+abbrev pub control_run : Slopes → Kind → ℕ → List ℕ → List ℕ → ℕ → List Token
+control_run slopes (Simple c k) own nodes lates count = shares_run slopes Control c false own nodes lates count
+control_run slopes (Parity equal) own nodes lates count = []
+control_run slopes Mux own nodes lates count = mux_run slopes own nodes lates
 
 -- the parts of so many codes
 abbrev pub parts_run : List ℕ → ℕ → List Token
@@ -197,17 +196,17 @@ abbrev pub rail_value : ℕ → Bool
 rail_value rail = eqb (rail % 2) 1
 
 -- the clause that a pair's gate has the final value that its rail speaks of
-abbrev pub fixed_run : Form → ℕ → ℕ → List Token
-fixed_run Single rail own = []
-fixed_run RiseFall rail own = wants (false, own) ∷ wants (node_is (rail / 2) (rail_value rail)) ∷ ended ∷ []
+abbrev pub fixed_run : Slopes → ℕ → ℕ → List Token
+fixed_run alike rail own = []
+fixed_run (apart falls) rail own = wants (false, own) ∷ wants (node_is (rail / 2) (rail_value rail)) ∷ ended ∷ []
 
 -- ---- what is put for one gate
 
 -- a simple gate (rule F9): two literals a pin, then one clause over all pins
-abbrev pub simple_run : Form → Bool → Bool → ℕ → List ℕ → List ℕ → ℕ → List Token
-simple_run form c k node nodes lates count =
-    ((shares_run form Forced c k (node + 1) nodes lates count
-    ++ shares_run form Driver c k (node + 1) nodes lates count)
+abbrev pub simple_run : Slopes → Bool → Bool → ℕ → List ℕ → List ℕ → ℕ → List Token
+simple_run slopes c k node nodes lates count =
+    ((shares_run slopes Forced c k (node + 1) nodes lates count
+    ++ shares_run slopes Driver c k (node + 1) nodes lates count)
     ++ (wants (node_is node (not k)) ∷ [])) ++ (ended ∷ [])
 
 -- a clause of three literals

@@ -1,6 +1,5 @@
--- What `build` and `build_rise_fall` answer and leave in the two lent slices, for every input: 1..7, 16, 19 in the
--- rise-fall form, 10, then 9 for the formula.
--- Interface: building, Meets.
+-- What `build` answers and leaves in the two lent slices, for every input: 1..7, 16, 19 in the rise-fall form, 10, then
+-- 9 for the formula. `build_accepted` has the last two of an accepted circuit. Interface: building, Meets.
 use Rattle.std.specs.Prelude.{◌≡◌, List, [], ◌∷◌, ◌++◌, ℕ, ◌+◌, ◌-◌, ◌*◌, ltb, ℤ, pos, length, replicate}
 use Rattle.refusal.specs.declared.Refusal.{Refusal}
 use Rattle.refusal.specs.declared.Refusal.TheVariants.{Pairs}
@@ -8,20 +7,20 @@ use Rattle.refusal.specs.Rows.{Row, checked, unless_refused, room_row}
 use Rattle.netlist.specs.Netlist.{node_count, Circuit, Slopes}
 use Rattle.netlist.specs.Open.{call_over}
 use Rattle.clauses.specs.Clauses.{flat}
-use Rattle.formula.specs.declared.Built.{Built}
-use Rattle.formula.specs.declared.Built.TheVariants.{Formula, Refused}
+use Rattle.std.specs.Prelude.{Result, Ok, Err}
 use Rattle.formula.specs.declared.Counts.{Counts}
 use Rattle.pairs.specs.Pairs.{lent_pairs, pairs_for, pair_numbers, table_holds}
 use Rattle.formula.specs.Formula.{formula_for}
 
 -- the answer, and the whole content of each lent slice
 pub record Building : Type 0 where
-  pub answer : Built
+  pub answer : Result Counts Refusal
   pub pairs : List ℕ
   pub formula : List ℤ
 
 -- an answer and the contents of the slices are those of a building call
-pub record Meets (promised : Building) (answer : Built) (pairs : List ℕ) (formula : List ℤ) : Type 0 where
+pub record Meets (promised : Building) (answer : Result Counts Refusal) (pairs : List ℕ) (formula : List ℤ) :
+    Type 0 where
   pub answer-is : answer ≡ promised.answer
   pub pairs-are : pairs ≡ promised.pairs
   pub formula-is : formula ≡ promised.formula
@@ -29,7 +28,7 @@ pub record Meets (promised : Building) (answer : Built) (pairs : List ℕ) (form
 -- after a refusal every lent slice holds zeros (rule C7)
 abbrev pub refused : ℕ → ℕ → Refusal → Building
 refused pairs_room formula_room refusal =
-    record { answer = Refused refusal; pairs = replicate pairs_room 0; formula = replicate formula_room (pos 0) }
+    record { answer = Err refusal; pairs = replicate pairs_room 0; formula = replicate formula_room (pos 0) }
 
 -- the formula's numbers
 unfoldable pub numbers_for : Circuit → ℕ → List ℤ
@@ -49,7 +48,7 @@ counts_for circuit target =
 unfoldable pub built : Circuit → ℕ → ℕ → ℕ → Building
 built circuit target pairs_room formula_room =
     record {
-      answer = Formula (counts_for circuit target);
+      answer = Ok (counts_for circuit target);
       pairs =
           lent_pairs circuit.slopes (pairs_for circuit target)
           ++ replicate (pairs_room - length (pairs_for circuit target) * pair_numbers circuit.slopes) 0;

@@ -1,3 +1,2 @@
--- The laws, one file a topic.
-pub mod Zeros
+-- The laws: a slice that is filled from its start.
 pub mod Filling

@@ -1,125 +1,86 @@
-// What every call does with what its caller lends: zeros in slices of three element types, one slice copied to the
-// front of another, numbers out of bytes. Assumes nothing.
+// What every call does with what its caller lends: zeros in slices of numbers, one slice copied to the front of
+// another, numbers out of bytes. Assumes nothing.
 #![tactic(auto)]
 
 ghost use Rattle.std.specs.Prelude.{◌≡◌, ◌++◌, ◌+◌, ◌-◌, ◌≤◌, ◌<◌, pos, length, take, replicate};
 ghost use Rattle.lent.specs.Bytes.{two_bytes, four_bytes};
 ghost use Rattle.lent.specs.Copied.{Copied};
 
-// A byte as a number.
-pub fn wide(x: u8) -> usize
-    ensures { (result ≡ x) × (result < 256) }
-{
-    x as usize
+// A type of numbers, by its zero.
+pub trait Number: Copy {
+    ghost zero: { Self };
+
+    fn zero() -> Self
+        ensures { result ≡ zero };
 }
 
-// A 32-bit number as a number.
-pub fn widen(x: u32) -> usize
-    ensures { (result ≡ x) × (result < 4294967296) }
-{
-    x as usize
+impl Number for u8 {
+    ghost zero = { 0 };
+
+    fn zero() -> u8 {
+        0
+    }
+}
+
+impl Number for u32 {
+    ghost zero = { 0 };
+
+    fn zero() -> u32 {
+        0
+    }
+}
+
+impl Number for i32 {
+    ghost zero = { pos 0 };
+
+    fn zero() -> i32 {
+        0
+    }
 }
 
 // The number in the two bytes from a place on, little endian.
 pub fn two_bytes(bytes: &[u8], at: usize) -> usize
     requires { at + 2 ≤ length bytes.now }
-    ensures { (result ≡ two_bytes bytes.now at) × (result < 65536) }
+    ensures value { result ≡ two_bytes bytes.now at }
+    ensures small { result < 65536 }
 {
-    wide(bytes[at]) + wide(bytes[at + 1]) * 256
+    usize::from(u16::from_le_bytes([bytes[at], bytes[at + 1]]))
 }
 
 // The number in the four bytes from a place on, little endian.
 pub fn four_bytes(bytes: &[u8], at: usize) -> usize
     requires { at + 4 ≤ length bytes.now }
-    ensures { (result ≡ four_bytes bytes.now at) × (result < 4294967296) }
+    ensures value { result ≡ four_bytes bytes.now at }
+    ensures small { result < 4294967296 }
 {
-    let low = two_bytes(bytes, at);
-    let high = two_bytes(bytes, at + 2);
-    low + high * 65536
+    u32::from_le_bytes([bytes[at], bytes[at + 1], bytes[at + 2], bytes[at + 3]]) as usize
 }
 
 // Zeros from a place on; what stands before it stays.
-pub fn zero_rest_u8(slice: &mut [u8], from: usize)
+pub fn zero_rest<T: Number>(slice: &mut [T], from: usize)
     requires { from ≤ length slice.old }
-    ensures { slice.new
-        ≡ take from slice.old ++ replicate (length slice.old - from) 0 }
+    ensures { slice.new ≡ take from slice.old ++ replicate (length slice.old - from) T.zero }
 {
-    let mut i = from;
-    while i < slice.len() {
-        slice[i] = 0;
-        i += 1;
+    for place in &mut slice[from..] {
+        *place = T::zero();
     }
 }
 
-// The same for 32-bit numbers.
-pub fn zero_rest_u32(slice: &mut [u32], from: usize)
-    requires { from ≤ length slice.old }
-    ensures { slice.new
-        ≡ take from slice.old ++ replicate (length slice.old - from) 0 }
+// Zeros in a whole slice.
+pub fn zero<T: Number>(slice: &mut [T])
+    ensures { slice.new ≡ replicate (length slice.old) T.zero }
 {
-    let mut i = from;
-    while i < slice.len() {
-        slice[i] = 0;
-        i += 1;
-    }
+    zero_rest(slice, 0);
 }
 
-// The same for signed 32-bit numbers.
-pub fn zero_rest_i32(slice: &mut [i32], from: usize)
-    requires { from ≤ length slice.old }
-    ensures { slice.new
-        ≡ take from slice.old ++ replicate (length slice.old - from) (pos 0) }
-{
-    let mut i = from;
-    while i < slice.len() {
-        slice[i] = 0;
-        i += 1;
-    }
-}
-
-// Zeros in a whole slice of bytes.
-pub fn zero_u8(slice: &mut [u8])
-    ensures { slice.new ≡ replicate (length slice.old) 0 }
-{
-    zero_rest_u8(slice, 0);
-}
-
-// Zeros in a whole slice of 32-bit numbers.
-pub fn zero_u32(slice: &mut [u32])
-    ensures { slice.new ≡ replicate (length slice.old) 0 }
-{
-    zero_rest_u32(slice, 0);
-}
-
-// Zeros in a whole slice of signed 32-bit numbers.
-pub fn zero_i32(slice: &mut [i32])
-    ensures { slice.new ≡ replicate (length slice.old) (pos 0) }
-{
-    zero_rest_i32(slice, 0);
-}
-
-// One slice of bytes to the front of another; what stands behind stays.
-pub fn copy_u8(from: &[u8], slice: &mut [u8])
-    requires { length from.now ≤ length slice.old }
-    ensures { Copied from.now slice.old slice.new }
-{
-    let mut i = 0;
-    while i < from.len() {
-        slice[i] = from[i];
-        i += 1;
-    }
-}
-
-// One slice of 32-bit numbers to the front of another. Not laid into its callers: there LLVM makes a call of memcpy of
-// it, and a C host owes memset alone.
+// One slice to the front of another; what stands behind stays. A loop, and not laid into its callers: LLVM makes a call
+// of memmove of `copy_from_slice` and one of memcpy of the loop in a caller, and a C host owes memset alone.
 #[inline(never)]
-pub fn copy_u32(from: &[u32], slice: &mut [u32])
+pub fn copy<T: Copy>(from: &[T], slice: &mut [T])
     requires { length from.now ≤ length slice.old }
     ensures { Copied from.now slice.old slice.new }
 {
-    let mut i = 0;
-    while i < from.len() {
-        slice[i] = from[i];
-        i += 1;
+    for (i, number) in from.iter().enumerate() {
+        slice[i] = *number;
     }
 }

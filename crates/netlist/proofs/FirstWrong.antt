@@ -12,6 +12,9 @@ use lib.ListN.{length, get_or, drop, drop_of_length-le}
 use lib.Seq.{drop-cons}
 use borrow.Author.Tests.{ltb-false}
 use Rattle.basics.specs.Lists.{up_from}
+use Rattle.std.specs.Prelude.{Some, None, position, unwrap_or}
+use Rattle.std.proofs.lemmas.List.Recursion.{is_position_or_len}
+use Rattle.std.specs.List.{position_or_len}
 use Rattle.netlist.specs.Open.{first_wrong}
 
 module _ {A : Type 0} (wrong : A → Bool) where
@@ -72,6 +75,23 @@ module _ {A : Type 0} (wrong : A → Bool) where
       go true e i r = absurd (omega (arith, first-here x l e))
       go false e (Memᴰ.head q) r = ap wrong q ∙ e
       go false e (Memᴰ.tail i) r = r (omega (arith, first-later x l e)) i
+
+-- the library's search for the first entry that passes a test finds the same place
+first-found : {A : Type 0} (wrong : A → Bool) (l : List A) → position_or_len wrong l ≡ first_wrong wrong l
+unfolding first_wrong
+first-found wrong l =
+    sym (is_position_or_len (first_wrong wrong) wrong refl (λ x xs. ap (cond (wrong x) 0) (omega arith)) l)
+
+pub first-position : {A : Type 0} (wrong : A → Bool) (l : List A) →
+    unwrap_or (position wrong l) (length l) ≡ first_wrong wrong l
+first-position wrong l = go (ltb (position_or_len wrong l) (length l)) refl
+  where
+    go : (b : Bool) → ltb (position_or_len wrong l) (length l) ≡ b →
+        unwrap_or (cond b (Some (position_or_len wrong l)) None) (length l) ≡ first_wrong wrong l
+    go true e = first-found wrong l
+    go false e =
+        let far : length l ≤ position_or_len wrong l = ltb-false _ _ e in
+        omega (arith, first-found wrong l, first-within wrong l)
 
 pub first-of-map : {A B : Type 0} (wrong : B → Bool) (f : A → B) (l : List A) →
     first_wrong wrong (map f l) ≡ first_wrong (λ x. wrong (f x)) l

@@ -12,7 +12,7 @@ use native.Mathlib.Omega.{arith}
 use lib.ListN.{length, get_or}
 use Rattle.basics.proofs.Lists.{map-mem}
 use Rattle.netlist.specs.Netlist.{Pin, Slopes, alike, apart, delayed, fall_of, pins_for, slowest}
-use Rattle.refusal.specs.declared.Checked.TheVariants.{Passes}
+use Rattle.std.specs.Prelude.{Ok}
 use Rattle.refusal.specs.Rows.{checked}
 use Rattle.netlist.specs.Open.{first_wrong, fall_rows}
 use Rattle.netlist.specs.Holds.{Small}
@@ -87,7 +87,7 @@ none_over most (x ∷ l) small =
 
 -- so many small delays pass
 pub small-passes : (pins : ℕ) (falls : List ℕ) → length falls ≡ pins → Small (apart falls) →
-    checked (fall_rows pins falls) ≡ Passes
+    checked (fall_rows pins falls) ≡ Ok tt
 unfolding fall_rows
 small-passes pins falls long small =
     rw (none_over 999 falls small, long, eq-eqb pins pins refl, le-ltb pins pins (omega arith)) refl

@@ -5,8 +5,8 @@ use Rattle.std.specs.Prelude.{◌≡◌, refl, List, [], ◌∷◌, ◌++◌, ma
 use Rattle.basics.specs.Lists.{concat_map, numbered}
 use Rattle.refusal.specs.declared.Refusal.{Refusal}
 use Rattle.refusal.specs.declared.Refusal.TheVariants.{Short, Version, Count, Back, Gate, Pin, Output}
-use Rattle.netlist.specs.declared.Opened.{Opened}
-use Rattle.netlist.specs.declared.Opened.TheVariants.{Accepted, Refused}
+use Rattle.std.specs.Prelude.{Result, Ok, Err}
+use Rattle.netlist.specs.declared.Shape.{Shape}
 use Rattle.netlist.specs.Kinds.{pins_fit, kind_of}
 use Rattle.netlist.specs.File.{table_bytes, shape_of}
 use Rattle.netlist.specs.Open.{
@@ -60,18 +60,18 @@ one_gate kind delays =
 -- a file, and what `open` says
 pub record Case : Type 0 where
   pub file : List ℕ
-  pub answer : Opened
+  pub answer : Result Shape Refusal
 
-abbrev case : List ℕ → Opened → Case
+abbrev case : List ℕ → Result Shape Refusal → Case
 case file answer = record { file = file; answer = answer }
 
 abbrev refuses : List ℕ → Refusal → Case
-refuses file refusal = case file (Refused refusal)
+refuses file refusal = case file (Err refusal)
 
 -- I, G, P, Q, and where the tables begin
-abbrev shape : ℕ → ℕ → ℕ → ℕ → ℕ → Opened
+abbrev shape : ℕ → ℕ → ℕ → ℕ → ℕ → Result Shape Refusal
 shape inputs gates pins outputs tables =
-    Accepted (record { inputs = inputs; gates = gates; pins = pins; outputs = outputs; tables = tables })
+    Ok (record { inputs = inputs; gates = gates; pins = pins; outputs = outputs; tables = tables })
 
 -- a kind takes so many pins, or does not
 abbrev takes : ℕ → ℕ → Case

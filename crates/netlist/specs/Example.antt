@@ -2,7 +2,7 @@
 -- described_a, decodes.
 use Rattle.std.specs.Prelude.{◌≡◌, refl, true, false, List, [], ◌∷◌, ℕ}
 use Rattle.netlist.specs.declared.Kind.TheVariants.{Simple}
-use Rattle.netlist.specs.declared.Opened.TheVariants.{Accepted}
+use Rattle.std.specs.Prelude.{Ok}
 use Rattle.netlist.specs.Netlist.{Netlist, Pin}
 use Rattle.netlist.specs.Kinds.{pins_fit, kind_of}
 use Rattle.netlist.specs.File.{
@@ -57,7 +57,7 @@ described_a =
     }
 
 -- they are accepted, and say that circuit
-pub decodes : (open_of circuit_a ≡ Accepted (shape_of circuit_a)) × (netlist_of circuit_a ≡ described_a)
+pub decodes : (open_of circuit_a ≡ Ok (shape_of circuit_a)) × (netlist_of circuit_a ≡ described_a)
 unfolding
     circuit_a described_a open_of netlist_rows first_wrong count_wrong back_wrong pins_before gate_wrong gate_place
     sum_wrong pins_at pin_wrong pin_place output_wrong output_place pins_fit kind_of table_bytes shape_of gate_at

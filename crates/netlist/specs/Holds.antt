@@ -1,8 +1,9 @@
 -- What every later read of an accepted file, and of its inputs' arrivals, may lean on. Interface: Holds, Tables,
 -- Arrived, Given, Small, Sloped. InRange and Framed serve `open`.
 use Rattle.std.specs.Prelude.{◌≡◌, false, List, ℕ, ◌+◌, ◌*◌, ◌≤◌, ◌<◌, T, length, get_or}
+use Rattle.std.proofs.Props.{props}
 use Rattle.netlist.specs.declared.Shape.{Shape}
-use Rattle.netlist.specs.declared.Opened.TheVariants.{Accepted}
+use Rattle.std.specs.Prelude.{Ok}
 use Rattle.netlist.specs.Netlist.{Slopes, alike, apart, valid}
 use Rattle.netlist.specs.File.{
   version,
@@ -37,9 +38,9 @@ pub record Framed (file : List ℕ) (shape : Shape) : Type 0 where
   pub counts : 4 ≤ count_wrong shape
   pub back : back_wrong file ≡ false
 
--- the file is accepted with this shape; the rest follows from it (proofs/Accepted)
+-- the file is accepted with this shape; the rest follows from it (proofs/AcceptedFile)
 pub record Holds (file : List ℕ) (shape : Shape) : Type 0 where
-  pub opened : open_of file ≡ Accepted shape
+  pub opened : open_of file ≡ Ok shape
   pub valid : T (valid (netlist_at file shape))
   pub counts : InRange shape
   pub tables : Tables file shape
@@ -69,3 +70,8 @@ Small (apart falls) = (pin : ℕ) → get_or falls pin 0 ≤ 999
 abbrev pub Sloped : Shape → Slopes → Type 0
 Sloped shape alike = Unit {0}
 Sloped shape (apart falls) = (length falls ≡ shape.pins) × Small (apart falls)
+
+-- there is at most one way to show it
+pub sloped-prop : (shape : Shape) (slopes : Slopes) → IsProp (Sloped shape slopes)
+sloped-prop shape alike = Prim.hlevel props
+sloped-prop shape (apart falls) = Prim.hlevel props

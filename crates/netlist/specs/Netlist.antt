@@ -48,10 +48,10 @@ pub data Slopes : Type 0 where
   alike : Slopes
   apart : List ℕ → Slopes
 
--- by a form and the list that is lent beside the file
-abbrev pub slopes_by : Form → List ℕ → Slopes
-slopes_by Single falls = alike
-slopes_by RiseFall falls = apart falls
+-- those of a form
+abbrev pub slopes_of : Form → Slopes
+slopes_of Single = alike
+slopes_of (RiseFall falls) = apart falls.now
 
 -- a circuit: a netlist, when each of its inputs arrives, and how its delays depend on a gate's final value
 pub record Circuit : Type 0 where

@@ -28,8 +28,7 @@ use Rattle.refusal.specs.declared.Refusal.{Refusal}
 use Rattle.refusal.specs.declared.Refusal.TheVariants.{Short, Version, Count, Back, Gate, Pin, Output, Arrival, Fall}
 use Rattle.refusal.specs.Rows.{Row, checked, unless_refused}
 use Rattle.netlist.specs.declared.Shape.{Shape}
-use Rattle.netlist.specs.declared.Opened.{Opened}
-use Rattle.netlist.specs.declared.Opened.TheVariants.{Accepted, Refused}
+use Rattle.std.specs.Prelude.{Result, Ok, Err, Option, Some, None}
 use Rattle.netlist.specs.Netlist.{Circuit, Slopes, alike, apart}
 use Rattle.netlist.specs.Kinds.{pins_fit}
 use Rattle.netlist.specs.File.{
@@ -61,6 +60,10 @@ count_wrong shape =
     (cond (leb shape.gates 448)
     (cond (leb shape.pins 2048) (cond (leb 1 shape.outputs && leb shape.outputs 64) 4 3) 2) 1) 0
 
+-- that count, where there is one
+abbrev pub wrong_count : Shape → Option ℕ
+wrong_count shape = cond (ltb (count_wrong shape) 4) (Some (count_wrong shape)) None
+
 -- 4 BACK: back is not the tables' total (rule N4), or the file is too short for it
 unfoldable pub back_wrong : List ℕ → Bool
 back_wrong file = not (eqb (back file) (table_bytes file)) || ltb (trailer file) (back file)
@@ -84,6 +87,11 @@ gate_place file shape = first_wrong (gate_wrong file shape) (up_from 0 shape.gat
 unfoldable pub sum_wrong : List ℕ → Shape → Bool
 sum_wrong file shape = not (eqb (pins_before file shape shape.gates) shape.pins)
 
+-- the two as one row
+abbrev pub gate_row : List ℕ → Shape → Row
+gate_row file shape =
+    (ltb (gate_place file shape) shape.gates || sum_wrong file shape, Gate (gate_place file shape))
+
 -- the pins of a gate, each with its gate's node
 unfoldable pub pins_at : List ℕ → Shape → ℕ → List (ℕ × ℕ)
 pins_at file shape gate =
@@ -101,6 +109,17 @@ right_pins file shape gate = first_wrong (pin_wrong file shape) (pins_at file sh
 unfoldable pub pin_place : List ℕ → Shape → ℕ
 pin_place file shape = first_wrong (pin_wrong file shape) (concat_map (pins_at file shape) (up_from 0 shape.gates))
 
+-- the row
+abbrev pub pin_row : List ℕ → Shape → Row
+pin_row file shape = (ltb (pin_place file shape) shape.pins, Pin (pin_place file shape))
+
+-- the same of one gate's pins
+abbrev pub gate_pin_row : List ℕ → Shape → ℕ → Row
+gate_pin_row file shape gate = (
+  ltb (right_pins file shape gate) (count_at file shape gate),
+  Pin (pins_before file shape gate + right_pins file shape gate),
+)
+
 -- 7 OUTPUT: a node at or below the previous output, or no node at all
 unfoldable pub output_wrong : List ℕ → Shape → ℕ → Bool
 output_wrong file shape position =
@@ -111,6 +130,10 @@ output_wrong file shape position =
 unfoldable pub output_place : List ℕ → Shape → ℕ
 output_place file shape = first_wrong (output_wrong file shape) (up_from 0 shape.outputs)
 
+-- the row
+abbrev pub output_row : List ℕ → Shape → Row
+output_row file shape = (ltb (output_place file shape) shape.outputs, Output (output_place file shape))
+
 -- 1 to 7, in the table's order
 unfoldable pub netlist_rows : List ℕ → List Row
 netlist_rows file =
@@ -119,13 +142,13 @@ netlist_rows file =
     ∷ (not (eqb (version file) 1), Version (version file))
     ∷ (ltb (count_wrong shape) 4, Count (count_wrong shape))
     ∷ (back_wrong file, Back)
-    ∷ (ltb (gate_place file shape) shape.gates || sum_wrong file shape, Gate (gate_place file shape))
-    ∷ (ltb (pin_place file shape) shape.pins, Pin (pin_place file shape))
-    ∷ (ltb (output_place file shape) shape.outputs, Output (output_place file shape)) ∷ []
+    ∷ gate_row file shape
+    ∷ pin_row file shape
+    ∷ output_row file shape ∷ []
 
 -- the answer for any list of bytes
-unfoldable pub open_of : List ℕ → Opened
-open_of file = unless_refused (checked (netlist_rows file)) Refused (Accepted (shape_of file))
+unfoldable pub open_of : List ℕ → Result Shape Refusal
+open_of file = unless_refused (checked (netlist_rows file)) Err (Ok (shape_of file))
 
 -- a list that must have so many entries, none over `most`: refused at that number, or at the first that is over
 abbrev pub list_rows : (ℕ → Refusal) → ℕ → ℕ → List ℕ → List Row
@@ -146,15 +169,15 @@ abbrev pub circuit_rows : List ℕ → List ℕ → List Row
 circuit_rows file arrivals = netlist_rows file ++ arrival_rows (shape_of file).inputs arrivals
 
 -- the answer for any list of bytes with any arrivals
-unfoldable pub open_circuit_of : List ℕ → List ℕ → Opened
+unfoldable pub open_circuit_of : List ℕ → List ℕ → Result Shape Refusal
 open_circuit_of file arrivals =
-    unless_refused (checked (circuit_rows file arrivals)) Refused (Accepted (shape_of file))
+    unless_refused (checked (circuit_rows file arrivals)) Err (Ok (shape_of file))
 
 -- the same by the file's own answer
-abbrev pub arrived_of : Opened → List ℕ → Opened
-arrived_of (Refused refusal) arrivals = Refused refusal
-arrived_of (Accepted shape) arrivals =
-    unless_refused (checked (arrival_rows shape.inputs arrivals)) Refused (Accepted shape)
+abbrev pub arrived_of : Result Shape Refusal → List ℕ → Result Shape Refusal
+arrived_of (Err refusal) arrivals = Err refusal
+arrived_of (Ok shape) arrivals =
+    unless_refused (checked (arrival_rows shape.inputs arrivals)) Err (Ok shape)
 
 -- 19 FALL, of the delays of so many pins for gates that end at 0
 unfoldable pub fall_rows : ℕ → List ℕ → List Row

@@ -1,5 +1,5 @@
 -- What is marked of a node f: the target by the outputs, and what each pin asks for that f drives, one after the other.
--- Laws: output-..; pin-starts, pin-here, pin-more, pin-ends; asks-same, asks-starts, asks-more. Assumes nothing.
+-- Laws: output-found; pin-starts, pin-here, pin-more, pin-ends; asks-same, asks-starts, asks-more. Assumes nothing.
 use mathlib.Core.Path.{◌≡◌, refl, sym, ap, ap₂, subst, ◌∙◌}
 use mathlib.Core.Logic.{◌⊎◌, inl, inr}
 use mathlib.Core.List.Memᴰ
@@ -15,8 +15,7 @@ use native.Mathlib.Decide.{dec_lt, ℕ_discrete}
 use lib.ListN.{length, get_or}
 use Rattle.netlist.specs.declared.Shape.{Shape}
 use Rattle.netlist.specs.Netlist.{Slopes}
-use Rattle.netlist.specs.File.{netlist_at, output_at}
-use Rattle.netlist.proofs.Entries.{output-has, output-only}
+use Rattle.netlist.specs.File.{netlist_at}
 use Rattle.pairs.specs.Table.{
   pair_at,
   key_of,
@@ -46,27 +45,12 @@ within-as Y t f u = record { some = u.some; few = u.few; has = f u.has }
 -- ---- the outputs
 
 module _ {marks : List ℕ} {file : List ℕ} {shape : Shape} {target f top : ℕ} where
-  pub output-early : (0 < target → top < target) → Adds marks (Within top (OutputAsks file shape target f)) marks
-  output-early h =
-      adds_none (Within top (OutputAsks file shape target f))
-      (λ t u. let e = u.has.same in omega (arith, u.some, u.few, h (omega (arith, u.some))))
-
-  pub output-found : {after : List ℕ} (i x : ℕ) → 0 < target → target ≤ top → i < shape.outputs →
-      x ≡ output_at file shape i → x ≡ f → Adds marks (λ t. t ≡ target) after →
-      Adds marks (Within top (OutputAsks file shape target f)) after
-  output-found i x a b h e q w =
-      let m =
-      subst (λ (y : ℕ). Memᴰ y (netlist_at file shape).outputs) (sym e ∙ q) (output-has file shape i h)
-      in
+  pub output-found : {after : List ℕ} → 0 < target → target ≤ top → Memᴰ f (netlist_at file shape).outputs →
+      Adds marks (λ t. t ≡ target) after → Adds marks (Within top (OutputAsks file shape target f)) after
+  output-found a b m w =
       adds_same (Within top (OutputAsks file shape target f))
       (λ t r. record { some = omega arith; few = omega arith; has = record { same = r; output = m } })
       (λ t u. u.has.same) w
-
-  pub output-none : {i : ℕ} → ((k : ℕ) → k < i → output_at file shape k ≡ f → ⊥) → shape.outputs ≤ i →
-      Adds marks (Within top (OutputAsks file shape target f)) marks
-  output-none n h =
-      adds_none (Within top (OutputAsks file shape target f))
-      (λ t u. let w = output-only file shape f u.has.output in n w.0 (omega (arith, w.1)) (sym w.2))
 
 -- ---- a pin of node n
 

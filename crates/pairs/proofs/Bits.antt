@@ -6,7 +6,6 @@ use native.Mathlib.Omega.{arith}
 use native.Mathlib.Nat.{add-mul-div_right, pow-suc, div-eq_of_lt, div_self}
 use native.Mathlib.Decide.{dec_lt}
 use lib.Bits.{bit_or, or_shr, or_step}
-use lib.Count.{count_leading_zeros, leading_top}
 use lib.Pow.{pow-add, pow_pos, pow_mono, pow-lt, shl_exact}
 use Rattle.pairs.specs.Table.{bit_at, Highest}
 
@@ -14,12 +13,9 @@ use Rattle.pairs.specs.Table.{bit_at, Highest}
 pub one_shifted : (k : ℕ) → k < 64 → (1 * 2 ^ k) % 18446744073709551616 ≡ 2 ^ k
 one_shifted k h = shl_exact 1 k 64 (omega arith) (omega arith) ∙ omega arith
 
--- the highest bit, by the zeros above it
-pub highest-of : (w : ℕ) → 0 < w → w < 18446744073709551616 → Highest w (63 - count_leading_zeros 64 w)
-highest-of w h l =
-    let t = leading_top 64 w h l in
-    let e : 63 - count_leading_zeros 64 w ≡ t.0 = omega (arith, t.1) in
-    rw e (record { within = omega (arith, t.1); least = t.2; most = t.3 })
+-- the highest bit, by the powers of two on both sides of the word
+pub highest-of : {w k : ℕ} → 2 ^ k ≤ w → w < 2 * 2 ^ k → k < 64 → Highest w k
+highest-of {w} {k} h l i = record { within = i; least = h; most = rw (pow-suc 2 k) (omega arith) }
 
 -- a word below a power has no bit at its place
 pub bit-none : (w k : ℕ) → w < 2 ^ k → bit_at w k ≡ 0

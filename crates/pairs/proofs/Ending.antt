@@ -1,18 +1,19 @@
 -- Where the pairs of each gate's rail begin among those found, counted from the end: so a pair more at the front leaves
--- it as it is, and a rail that is done begins at the front. Laws: ended-starts, ended-later, ended-rail, ended-more,
+-- it as it is, and a rail that is done begins at the front. Laws: ended-starts, ended-rail, ended-part, ended-more,
 -- ended-down; drives-above. Assumes nothing.
-use mathlib.Core.Path.{◌≡◌, ap}
+use mathlib.Core.Path.{◌≡◌, ap, subst}
 use mathlib.Core.List.{List, [], ◌∷◌, Memᴰ}
 use Prim.Native.Nat.{ℕ, zero, suc, ◌+◌, ◌-◌, ◌*◌, ◌<◌, ◌≤◌}
 use native.Mathlib.Omega.{arith}
 use native.Mathlib.Decide.{ℕ_discrete}
-use lib.ListN.{length, get_or, set}
+use lib.ListN.{length, get_or, set, take, drop, length-drop}
+use Rattle.std.proofs.lemmas.List.{get_or-drop}
 use lib.Seq.{get_or-set_same, get_or-set_other}
 use Rattle.netlist.specs.declared.Shape.{Shape}
 use Rattle.netlist.specs.File.{first_at}
 use Rattle.netlist.specs.Holds.{Holds}
 use Rattle.pairs.specs.Table.{pair_at, key_of, Precede, Drives, EndsAt, Ended}
-use Rattle.pairs.proofs.Flat.{mem-at}
+use Rattle.pairs.proofs.Flat.{mem-at, part}
 
 -- a pair before the key, at the front
 precede-more : {l : List (ℕ × ℕ)} {key r : ℕ} (x : ℕ × ℕ) → key_of x < key → Precede l key r →
@@ -30,20 +31,30 @@ precede-more {l} {key} {r} x h p = record { within = omega (arith, p.within); be
 pub ended-starts : (first last : ℕ) (ends : List ℕ) → Ended [] first last ends (last + 1)
 ended-starts first last ends = record { of = λ number h k. absurd (omega arith) }
 
--- from a later rail on
-pub ended-later : {l : List (ℕ × ℕ)} {first last low : ℕ} {ends : List ℕ} (high : ℕ) → Ended l first last ends low →
-    low ≤ high → Ended l first last ends high
-ended-later high w h = record { of = λ number a b. w.of number (omega arith) b }
+-- where the pairs of a rail begin
+pub ended-rail : {l : List (ℕ × ℕ)} {first last low : ℕ} {ends : List ℕ} (rail : ℕ) → Ended l first last ends low →
+    first ≤ rail → low ≤ rail → rail ≤ last → EndsAt l rail ends (rail - first)
+ended-rail {l} {first} {ends = ends} rail w a b h =
+    let e : first + (rail - first) ≡ rail = omega arith in
+    subst (λ (n : ℕ). EndsAt l n ends (rail - first)) e (w.of (rail - first) (omega arith) (omega arith))
 
--- where the pairs of a rail begin, and where those of the next do
-pub ended-rail : {l : List (ℕ × ℕ)} {first last low : ℕ} {ends : List ℕ} → Ended l first last ends low →
-    (rail number : ℕ) → rail ≡ first + number → low ≤ rail → rail < last →
-    EndsAt l rail ends number × EndsAt l (rail + 1) ends (number + 1)
-ended-rail {l} {first} {last} {low} {ends} w rail number e h k =
-    let q : rail + 1 ≡ first + (number + 1) = omega arith in (
-      rw e (w.of number (omega arith) (omega arith)),
-      rw q (w.of (number + 1) (omega arith) (omega arith)),
-    )
+-- with the places of the later rails alone
+pub ended-part : {l : List (ℕ × ℕ)} {first last low : ℕ} {ends : List ℕ} (rail place : ℕ) →
+    Ended l first last ends low → place ≡ rail - first → first ≤ rail → low ≤ rail → rail ≤ last →
+    length ends ≡ last - first + 1 →
+    Ended l rail (rail + length (take (length ends - place) (drop place ends)) - 1)
+    (take (length ends - place) (drop place ends)) rail
+ended-part {l} {first} {last} {ends = ends} rail place w e a b h long =
+    rw (part ends place) (record { of = λ number i k. go number k })
+  where
+    go : (number : ℕ) → rail + number ≤ rail + length (drop place ends) - 1 →
+        EndsAt l (rail + number) (drop place ends) number
+    go number k =
+        let n : length (drop place ends) ≡ length ends - place = length-drop place ends in
+        let q : rail + number ≡ first + (place + number) = omega arith in
+        let got = get_or-drop place ends number 0 in
+        let old = w.of (place + number) (omega arith) (omega arith) in
+        record { few = rw got old.few; from = rw (q, got) old.from }
 
 module _ {l : List (ℕ × ℕ)} {first last f : ℕ} {ends : List ℕ} (w : Ended l first last ends (f + 1)) where
   -- one more pair of rail f

@@ -1,7 +1,7 @@
--- The loop that fills the table, as it stands between two turns: the pairs of node f from a bound on are found, and the
--- marks that are left are the times below the bound that are asked of f. Laws: word-less; finding-starts,
--- finding-next, finding-clear, finding-below, finding-down, finding-ends; finding-time, finding-more, finding-full.
--- Assumes nothing.
+-- The loops that fill the table, as they stand between two turns: all pairs of the rails from f on are found; or those
+-- of rail f from a bound on, and the marks that are left are the times below the bound that are asked of f. Laws:
+-- past-starts, past-below, past-marked, past-ends; finding-past, finding-next, finding-more, finding-full. Assumes
+-- nothing.
 use mathlib.Core.Path.{◌≡◌, refl, subst}
 use mathlib.Core.List.{List, ◌∷◌}
 use Prim.Native.Nat.{ℕ, ◌+◌, ◌*◌, ◌-◌, ◌/◌, ◌^◌, ◌<◌, ◌≤◌, min}
@@ -10,16 +10,14 @@ use lib.ListN.{length, get_or, set, drop}
 use Rattle.netlist.specs.declared.Shape.{Shape}
 use Rattle.netlist.specs.Netlist.{Slopes}
 use Rattle.netlist.specs.Holds.{Given, Sloped}
-use Rattle.settle.specs.Steps.{latest}
 use Rattle.pairs.specs.Rails.{node_of}
 use Rattle.pairs.specs.Pairs.{flat_pairs}
 use Rattle.pairs.specs.declared.Span.{Span}
-use Rattle.pairs.specs.Table.{Marked, Adds, Highest, LastWord, Spans, Within, AsksAll}
+use Rattle.pairs.specs.Table.{Marked, Adds, Highest, Spans, Within, AsksAll}
 use Rattle.pairs.specs.Promise.{Tops, pairs_at}
-use Rattle.pairs.proofs.Step.{first_rail, last_rail, AskedAt, facts-of}
+use Rattle.pairs.proofs.Step.{first_rail, last_rail, AskedAt}
 use Rattle.pairs.proofs.Scanning.{
   Scanning,
-  scanning-starts,
   scanning-fresh,
   scanning-next,
   scanning-none,
@@ -46,86 +44,90 @@ pub record Finding (file : List ℕ) (shape : Shape) (arrivals : List ℕ) (slop
   pub filling : Filling file shape arrivals slopes target table₀ table ends at f bound
   pub scanning : Scanning (AskedAt file shape arrivals slopes target f) bound marks low word bits
 
--- a word less is less, whatever its bits
-pub word-less : (r word v bits : ℕ) → r < word → v < 18446744073709551616 →
-    r * 18446744073709551616 + v < word * 18446744073709551616 + bits
-word-less r word v bits h l = omega arith
+-- all pairs of the rails from f on are found, and no mark is left
+pub record Past (file : List ℕ) (shape : Shape) (arrivals : List ℕ) (slopes : Slopes) (target : ℕ)
+    (table₀ table ends : List ℕ) (at f : ℕ) (marks : List ℕ) : Type 0 where
+  pub bound : ℕ
+  pub filling : Filling file shape arrivals slopes target table₀ table ends at f bound
+  pub clear : (t : ℕ) → Marked marks t → ⊥
+  pub none : (s : ℕ) → AskedAt file shape arrivals slopes target f s → s < bound → ⊥
 
 module _ {file : List ℕ} {shape : Shape} {arrivals : List ℕ} (slopes : Slopes) (given : Given file shape arrivals)
     (sloped : Sloped shape slopes) (target : ℕ) where
-  pub finding-starts : (table ends marks : List ℕ) (f : ℕ) → f ≡ last_rail shape slopes →
-      length table / 2 * 2 ≡ length table → ((t : ℕ) → Marked marks t → ⊥) → 0 < length marks →
-      Finding file shape arrivals slopes target table table ends (length table / 2) f marks 0 0 0
-  finding-starts table ends marks f i e h r =
+  pub past-starts : (table ends marks : List ℕ) (f : ℕ) → f ≡ last_rail shape slopes →
+      length table / 2 * 2 ≡ length table → ((t : ℕ) → Marked marks t → ⊥) →
+      Past file shape arrivals slopes target table table ends (length table / 2) f marks
+  past-starts table ends marks f i e h =
       rw i
       (record {
         bound = 0;
         filling = filling-starts slopes given sloped target table ends e;
-        scanning = scanning-starts (AskedAt file shape arrivals slopes target (last_rail shape slopes)) h r;
+        clear = h;
+        none = λ s a l. absurd (omega arith);
       })
+
+  module _ {table₀ table ends : List ℕ} {at f : ℕ} {marks : List ℕ}
+      (w : Past file shape arrivals slopes target table₀ table ends at f marks) where
+    -- on to the rail below, of which nothing is asked for above x, and before whose pairs v stand
+    pub past-below : {tops : List ℕ} (y x v place : ℕ) → first_rail shape slopes < f →
+        Tops file shape arrivals slopes tops → y ≡ get_or tops (node_of slopes (f - 1)) 0 → x ≡ min y target →
+        place ≡ f - first_rail shape slopes → place < length ends → v ≡ length table₀ / 2 - at →
+        Filling file shape arrivals slopes target table₀ table (set ends place v) at (f - 1) (x + 1)
+    past-below y x v place h tops q i e room n =
+        rw e
+        (filling-down slopes given sloped target w.filling w.none h tops y x v q i
+        (omega arith) (omega (arith, w.filling.room)))
+
+    -- what is asked of it is marked
+    pub past-marked : {ends' marks' : List ℕ} {span : Span} (x node : ℕ) → node ≡ node_of slopes (f - 1) →
+        Filling file shape arrivals slopes target table₀ table ends' at (f - 1) (x + 1) →
+        Adds marks (Within x (AsksAll (found_in table at) file shape slopes target node)) marks' →
+        Spans x marks' span → span.high < length marks' →
+        Finding file shape arrivals slopes target table₀ table ends' at (f - 1) marks' span.low span.high 0
+    past-marked {marks' = marks'} x node e down more spans r =
+        record {
+          bound = x + 1;
+          filling = down;
+          scanning =
+              scanning-fresh (AskedAt file shape arrivals slopes target (f - 1)) (x + 1) w.clear
+              (subst
+              (λ (n : ℕ). Adds marks (Within x (AsksAll (found_in table at) file shape slopes target n)) marks') e
+              more)
+              (filling-asks slopes given sloped target down x (omega (arith, down.bound)))
+              (λ t a l. filling-asked slopes given sloped target down x refl t a l) spans r;
+        }
+
+    -- or all are found
+    pub past-ends : f ≤ first_rail shape slopes →
+        (at + length (pairs_at file shape arrivals slopes target) ≡ length table₀ / 2)
+        × (drop (at * 2) table ≡ flat_pairs (pairs_at file shape arrivals slopes target))
+    past-ends h = filling-ends slopes given sloped target w.filling w.none h
+
+  -- no bit is left of the word, nor a word before it
+  pub finding-past : {table₀ table ends : List ℕ} {at f : ℕ} {marks : List ℕ} {low word : ℕ} →
+      Finding file shape arrivals slopes target table₀ table ends at f marks low word 0 → word ≤ low →
+      Past file shape arrivals slopes target table₀ table ends at f marks
+  finding-past w h =
+      record {
+        bound = w.bound;
+        filling = w.filling;
+        clear = scanning-clear w.scanning h;
+        none = scanning-none w.scanning h;
+      }
+
+  -- on to the word before it
+  pub finding-next : {table₀ table ends : List ℕ} {at f : ℕ} {marks : List ℕ} {low word : ℕ} →
+      Finding file shape arrivals slopes target table₀ table ends at f marks low word 0 → low < word →
+      Finding file shape arrivals slopes target table₀ table ends at f (set marks (word - 1) 0) low (word - 1)
+      (get_or marks (word - 1) 0)
+  finding-next w h = record { bound = w.bound; filling = w.filling; scanning = scanning-next w.scanning h }
 
   module _ {table₀ table ends : List ℕ} {at f : ℕ} {marks : List ℕ} {low word bits : ℕ}
       (w : Finding file shape arrivals slopes target table₀ table ends at f marks low word bits) where
-    -- no bit of the word is left
-    module _ (read : bits ≡ 0) where
-      empty : Scanning (AskedAt file shape arrivals slopes target f) w.bound marks low word 0
-      empty =
-          subst (λ (x : ℕ). Scanning (AskedAt file shape arrivals slopes target f) w.bound marks low word x) read
-          w.scanning
-
-      -- on to the last word before it with a mark
-      pub finding-next : {r : ℕ} (v : ℕ) → low < word → LastWord marks low (word - 1) r → v ≡ get_or marks r 0 →
-          Finding file shape arrivals slopes target table₀ table ends at f (set marks r 0) low r v
-      finding-next v h last e =
-          record { bound = w.bound; filling = w.filling; scanning = scanning-next v empty h last e }
-
-      -- no word is left
-      module _ (ended : word ≤ low) where
-        pub finding-clear : (t : ℕ) → Marked marks t → ⊥
-        finding-clear = scanning-clear empty ended
-
-        -- on to the node below, of which nothing is asked for above x, and before whose pairs v stand
-        pub finding-below : {tops : List ℕ} (y x v place : ℕ) → first_rail shape slopes < f →
-            Tops file shape arrivals slopes tops → y ≡ get_or tops (node_of slopes (f - 1)) 0 → x ≡ min y target →
-            place ≡ f - first_rail shape slopes → place < length ends → v ≡ length table₀ / 2 - at →
-            Filling file shape arrivals slopes target table₀ table (set ends place v) at (f - 1) (x + 1)
-        finding-below y x v place h tops q i e room n =
-            rw e
-            (filling-down slopes given sloped target w.filling (scanning-none empty ended) h tops y x v q i
-            (omega arith) (omega (arith, w.filling.room)))
-
-        pub finding-down : {ends' marks' : List ℕ} {span : Span} (x node : ℕ) → node ≡ node_of slopes (f - 1) →
-            Filling file shape arrivals slopes target table₀ table ends' at (f - 1) (x + 1) →
-            Adds marks (Within x (AsksAll (found_in table at) file shape slopes target node)) marks' →
-            Spans x marks' span → span.high < length marks' →
-            Finding file shape arrivals slopes target table₀ table ends' at (f - 1) marks' span.low span.high bits
-        finding-down {marks' = marks'} x node e down more spans r =
-            record {
-              bound = x + 1;
-              filling = down;
-              scanning =
-                  rw read
-                  (scanning-fresh (AskedAt file shape arrivals slopes target (f - 1)) (x + 1) finding-clear
-                  (subst
-                  (λ (n : ℕ). Adds marks (Within x (AsksAll (found_in table at) file shape slopes target n)) marks') e
-                  more)
-                  (filling-asks slopes given sloped target down x (omega (arith, down.bound)))
-                  (λ t a l. filling-asked slopes given sloped target down x refl t a l) spans r);
-            }
-
-        -- or all are found
-        pub finding-ends : f ≤ first_rail shape slopes →
-            (at + length (pairs_at file shape arrivals slopes target) ≡ length table₀ / 2)
-            × (drop (at * 2) table ≡ flat_pairs (pairs_at file shape arrivals slopes target))
-        finding-ends h = filling-ends slopes given sloped target w.filling (scanning-none empty ended) h
-
     -- the highest bit of the word is bit k
     module _ {k : ℕ} (high : Highest bits k) where
       found : AskedAt file shape arrivals slopes target f (word * 64 + k) × (word * 64 + k < w.bound)
       found = scanning-found w.scanning high (word * 64 + k) refl
-
-      pub finding-time : word * 64 + k ≤ latest
-      finding-time = (facts-of slopes given sloped target f (word * 64 + k) found.0).4
 
       -- one more pair
       pub finding-more : (table' : List ℕ) (rest : ℕ) → 0 < at → length table' ≡ length table →

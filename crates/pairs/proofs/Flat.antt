@@ -76,10 +76,9 @@ flat-length (x ∷ l) = omega (arith, flat-length l)
 
 -- ---- what is read at a pair's two places
 
-pub key_here : (l : List ℕ) (k node time : ℕ) → k < length l / 2 → node ≡ get_or l (k * 2) 0 →
-    time ≡ get_or l (k * 2 + 1) 0 → node * 4294967296 + time ≡ key_of (pair_at (pairs_in l) k)
-key_here l k node time h e f = rw (pairs-at l k h, e, f)
+pub key_here : (l : List ℕ) (k : ℕ) → k < length l / 2 →
+    get_or l (k * 2) 0 * 4294967296 + get_or l (k * 2 + 1) 0 ≡ key_of (pair_at (pairs_in l) k)
+key_here l k h = rw (pairs-at l k h)
 
-pub time-here : (l : List ℕ) (k time : ℕ) → k < length l / 2 → time ≡ get_or l (k * 2 + 1) 0 →
-    (pair_at (pairs_in l) k).1 ≡ time
-time-here l k time h e = rw (pairs-at l k h, e)
+pub time-here : (l : List ℕ) (k : ℕ) → k < length l / 2 → get_or l (k * 2 + 1) 0 ≡ (pair_at (pairs_in l) k).1
+time-here l k h = rw (pairs-at l k h)

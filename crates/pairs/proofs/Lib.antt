@@ -15,7 +15,6 @@ pub mod Linking
 pub mod Walking
 pub mod Spanning
 pub mod Ending
-pub mod Forms
 pub mod Scanning
 pub mod Moving
 pub mod Topping

@@ -34,13 +34,12 @@ use Rattle.pairs.specs.Table.{GateDrives, Drives, Link, Chain, Holding, Chains, 
 
 -- ---- what a link holds
 
-module _ {links : List ℕ} {e next : ℕ} {x : ℕ × ℕ} (w : Link links e next x) (v : ℕ) (is : v ≡ get_or links (e - 1) 0)
-  where
-    pub link-gate : v % 512 ≡ x.0
-    link-gate = omega (arith, w.is, w.gate-small)
+module _ {links : List ℕ} {e next : ℕ} {x : ℕ × ℕ} (w : Link links e next x) where
+  pub link-gate : get_or links (e - 1) 0 % 512 ≡ x.0
+  link-gate = omega (arith, w.is, w.gate-small)
 
-    pub link-next : v / 512 ≡ next
-    link-next = omega (arith, w.is, w.gate-small)
+  pub link-next : get_or links (e - 1) 0 / 512 ≡ next
+  link-next = omega (arith, w.is, w.gate-small)
 
 -- ---- a link is stored
 

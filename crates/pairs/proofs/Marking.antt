@@ -1,10 +1,10 @@
 -- Times marked in words of 64 bits: a mark as a bit, what a stored word leaves, and marks that are added one after
--- the other. Laws: no-mark, no-marks, words_more, to-bit, of-bit, of-set, to-other, of_other; adds_none, adds_same,
+-- the other. Laws: no-mark, no-marks, to-bit, of-bit, of-set, to-other, of_other; adds_none, adds_same,
 -- adds_then, adds_one. Assumes nothing.
 use mathlib.Core.Path.{◌≡◌, sym, ap, ◌∙◌}
 use mathlib.Core.Logic.{◌⊎◌, inl, inr}
 use mathlib.Core.List.{List}
-use Prim.Native.Nat.{ℕ, ◌-◌, ◌/◌, ◌%◌, ◌^◌, ◌<◌, ◌≤◌}
+use Prim.Native.Nat.{ℕ, ◌/◌, ◌%◌, ◌^◌, ◌<◌}
 use native.Mathlib.Omega.{arith}
 use native.Mathlib.Decide.{ℕ_discrete}
 use lib.Bits.{bit_or}
@@ -26,16 +26,6 @@ no-mark {marks} {t} e m =
 -- zeros hold none
 pub no-marks : (n t : ℕ) → Marked (replicate n 0) t → ⊥
 no-marks n t m = no-mark (zeros-at n (t / 64)) m
-
--- the words after one are empty, and so is that one
-pub words_more : (marks : List ℕ) (from word : ℕ) →
-    ((k : ℕ) → word < k → k ≤ from → get_or marks k 0 ≡ 0) → get_or marks word 0 ≡ 0 →
-    (k : ℕ) → word - 1 < k → k ≤ from → get_or marks k 0 ≡ 0
-words_more marks from word f e k h l = go (ℕ_discrete k word)
-  where
-    go : Dec (k ≡ word) → get_or marks k 0 ≡ 0
-    go (yes q) = ap (λ (j : ℕ). get_or marks j 0) q ∙ e
-    go (no q) = f k (omega arith) l
 
 -- ---- marks are added
 

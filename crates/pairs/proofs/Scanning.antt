@@ -1,7 +1,7 @@
 -- The marks as they are read, from the last word down and in each word from the highest bit down: what is left is below
--- what was read, which was the largest. Laws: scanning-starts, scanning-fresh, scanning-next, scanning-clear,
--- scanning-none; scanning-found, scanning-most, scanning-taken; last-..; highest-of. Assumes nothing.
-use mathlib.Core.Path.{◌≡◌, sym, ap, ◌∙◌}
+-- what was read, which was the largest. Laws: scanning-fresh, scanning-next, scanning-clear, scanning-none;
+-- scanning-found, scanning-most, scanning-taken. Assumes nothing.
+use mathlib.Core.Path.{◌≡◌, sym, ◌∙◌}
 use mathlib.Core.Logic.{◌⊎◌, inl, inr}
 use mathlib.Core.List.{List}
 use Prim.Native.Nat.{ℕ, ◌+◌, ◌*◌, ◌-◌, ◌/◌, ◌%◌, ◌^◌, ◌<◌, ◌≤◌}
@@ -9,10 +9,10 @@ use native.Mathlib.Omega.{arith}
 use native.Mathlib.Decide.{dec_lt, ℕ_discrete}
 use lib.ListN.{length, get_or, set, length-set}
 use lib.Pow.{pow_pos}
-use Rattle.pairs.specs.Table.{bit_at, Marked, Adds, Highest, LastWord, Spans}
+use Rattle.pairs.specs.Table.{bit_at, Marked, Adds, Highest, Spans}
 use Rattle.pairs.specs.declared.Span.{Span}
 use Rattle.pairs.proofs.Bits.{bit-none, less-below, less-above, top_above, top-here}
-use Rattle.pairs.proofs.Marking.{no-mark, to-bit, of-bit, to-other, of_other, of-set}
+use Rattle.pairs.proofs.Marking.{to-bit, of-bit, to-other, of_other, of-set}
 
 -- time t is left: a bit of the word that is read, or marked
 abbrev pub Left : List ℕ → ℕ → ℕ → ℕ → Type 0
@@ -32,21 +32,6 @@ no-bit : (k : ℕ) → bit_at 0 k ≡ 1 → ⊥
 no-bit k e = omega (arith, bit-none 0 k (pow_pos k))
 
 module _ (Has : ℕ → Type 0) {marks : List ℕ} where
-  -- nothing is marked, and nothing is below 0
-  pub scanning-starts : ((t : ℕ) → Marked marks t → ⊥) → 0 < length marks → Scanning Has 0 marks 0 0 0
-  scanning-starts h r =
-      record {
-        room = r;
-        least = λ t m. omega arith;
-        before = λ t m. absurd (h t m);
-        each = λ t u. absurd (none t u);
-        all = λ t u l. absurd (omega arith);
-      }
-    where
-      none : (t : ℕ) → Left marks 0 0 t → ⊥
-      none t (inl u) = no-bit (t % 64) u.1
-      none t (inr m) = h t m
-
   -- nothing was marked, and then what has the property
   pub scanning-fresh : {old : List ℕ} {X : ℕ → Type 0} {top : ℕ} {span : Span} (b : ℕ) →
       ((t : ℕ) → Marked old t → ⊥) → Adds old X marks → ((t : ℕ) → X t → Has t × (t < b)) →
@@ -84,42 +69,38 @@ module _ {Has : ℕ → Type 0} {b : ℕ} {marks : List ℕ} {low : ℕ} where
       pick (inl v) = no-bit (t % 64) v.1
       pick (inr m) = scanning-clear w h t m
 
-  -- the last word before this one that has marks is read
-  pub scanning-next : {word r : ℕ} (v : ℕ) → Scanning Has b marks low word 0 → low < word →
-      LastWord marks low (word - 1) r → v ≡ get_or marks r 0 → Scanning Has b (set marks r 0) low r v
-  scanning-next {word} {r} v w h last e =
+  -- the word before this one is read
+  pub scanning-next : {word : ℕ} → Scanning Has b marks low word 0 → low < word →
+      Scanning Has b (set marks (word - 1) 0) low (word - 1) (get_or marks (word - 1) 0)
+  scanning-next {word} w h =
       record {
         room = rw length-set room;
-        least = λ t m. w.least t (old t m (ℕ_discrete (t / 64) r)).1;
-        before = λ t m. lower t m;
+        least = λ t m. w.least t (old t m (ℕ_discrete (t / 64) (word - 1))).1;
+        before = λ t m. lower t (old t m (ℕ_discrete (t / 64) (word - 1)));
         each = λ t u. each t u;
-        all = λ t u l. more t (w.all t u l) (ℕ_discrete (t / 64) r);
+        all = λ t u l. more t (w.all t u l) (ℕ_discrete (t / 64) (word - 1));
       }
     where
-      room : r < length marks
-      room = omega (arith, w.room, last.within)
+      room : word - 1 < length marks
+      room = omega (arith, w.room)
 
-      old : (t : ℕ) → Marked (set marks r 0) t → Dec (t / 64 ≡ r) → (t / 64 ≡ r → ⊥) × Marked marks t
-      old t m (yes p) = absurd (no-bit (t % 64) (of-set marks r 0 room t p m))
-      old t m (no p) = (p, of_other marks r 0 room t p m)
+      old : (t : ℕ) → Marked (set marks (word - 1) 0) t → Dec (t / 64 ≡ word - 1) →
+          (t / 64 ≡ word - 1 → ⊥) × Marked marks t
+      old t m (yes p) = absurd (no-bit (t % 64) (of-set marks (word - 1) 0 room t p m))
+      old t m (no p) = (p, of_other marks (word - 1) 0 room t p m)
 
-      lower : (t : ℕ) → Marked (set marks r 0) t → t / 64 < r
-      lower t m =
-          let u = old t m (ℕ_discrete (t / 64) r) in
-          go u.0 u.1 (dec_lt r (t / 64))
-        where
-          go : (t / 64 ≡ r → ⊥) → Marked marks t → Dec (r < t / 64) → t / 64 < r
-          go p u (yes l) = absurd (no-mark (last.empty (t / 64) l (omega (arith, w.before t u))) u)
-          go p u (no l) = omega arith
+      lower : (t : ℕ) → (t / 64 ≡ word - 1 → ⊥) × Marked marks t → t / 64 < word - 1
+      lower t u = omega (arith, u.0, w.before t u.1)
 
-      each : (t : ℕ) → Left (set marks r 0) r v t → Has t × (t < b)
-      each t (inl u) = w.each t (inr (of-bit t r u.0 (ap (λ (x : ℕ). bit_at x (t % 64)) (sym e) ∙ u.1)))
-      each t (inr m) = w.each t (inr (old t m (ℕ_discrete (t / 64) r)).1)
+      each : (t : ℕ) → Left (set marks (word - 1) 0) (word - 1) (get_or marks (word - 1) 0) t → Has t × (t < b)
+      each t (inl u) = w.each t (inr (of-bit t (word - 1) u.0 u.1))
+      each t (inr m) = w.each t (inr (old t m (ℕ_discrete (t / 64) (word - 1))).1)
 
-      more : (t : ℕ) → Left marks word 0 t → Dec (t / 64 ≡ r) → Left (set marks r 0) r v t
+      more : (t : ℕ) → Left marks word 0 t → Dec (t / 64 ≡ word - 1) →
+          Left (set marks (word - 1) 0) (word - 1) (get_or marks (word - 1) 0) t
       more t (inl u) p = absurd (no-bit (t % 64) u.1)
-      more t (inr m) (yes p) = inl (p, ap (λ (x : ℕ). bit_at x (t % 64)) e ∙ to-bit r p m)
-      more t (inr m) (no p) = inr (to-other marks r 0 room t p m)
+      more t (inr m) (yes p) = inl (p, to-bit (word - 1) p m)
+      more t (inr m) (no p) = inr (to-other marks (word - 1) 0 room t p m)
 
   -- the highest bit is read: time t
   module _ {word bits k : ℕ} (w : Scanning Has b marks low word bits) (high : Highest bits k) (t : ℕ)

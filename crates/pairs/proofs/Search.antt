@@ -1,15 +1,14 @@
 -- The search by halves: all before `low` are before the key, none from `high` on is, and half of what is between goes
--- at each turn. A pair of the list stands where the search for its key ends. Laws: searching-starts, searching-up,
--- searching-down, searching-ends, searching-between, searching-node; precede-le, node-precede; begins-at, begins-more;
--- sorted-le, rising-sorted; lists-sorted, lists-long, place_found. Assumes nothing.
+-- at each turn. A pair of the list stands where the search for its key ends. Laws: key-of, of-key; rising-sorted,
+-- sorted-le; searching-starts, searching-between, searching-node; precede-le, node-precede; begins-at; lists-sorted,
+-- lists-long, place_found. Assumes nothing.
 use mathlib.Core.Path.{◌≡◌, refl, sym, ap, subst, ◌∙◌}
 use mathlib.Core.Logic.{inl, inr}
 use mathlib.Core.List.{List, [], ◌∷◌, Memᴰ}
 use Prim.Native.Nat.{ℕ, zero, suc, ◌+◌, ◌*◌, ◌<◌, ◌≤◌}
 use native.Mathlib.Omega.{arith}
 use native.Mathlib.Decide.{dec_lt, ℕ_discrete}
-use lib.ListN.{length, get_or, set, take, length-take, get_or-eq_default}
-use lib.Seq.{get_or-set_same, get_or-set_other}
+use lib.ListN.{length, get_or, take, length-take, get_or-eq_default}
 use Rattle.pairs.specs.Pairs.{pair_place}
 use Rattle.pairs.specs.Rising.{Before, Rising}
 use Rattle.pairs.specs.Table.{pairs_in, pair_at, key_of, Sorted, Searching, Precede}
@@ -69,34 +68,6 @@ searching-starts l key n e =
       after = λ k h w. absurd (omega arith);
     }
 
-pub searching-up : {l : List (ℕ × ℕ)} {key low high : ℕ} (middle here : ℕ) → Sorted l → Searching l key low high →
-    low ≤ middle → middle < high → here ≡ key_of (pair_at l middle) → here < key → Searching l key (middle + 1) high
-searching-up {l} {key} middle here s b g h e c =
-    record {
-      upto = omega arith;
-      within = b.within;
-      before = λ k w. omega (arith, sorted-le s k middle (omega arith) (omega (arith, b.within)), e, c);
-      after = b.after;
-    }
-
-pub searching-down : {l : List (ℕ × ℕ)} {key low high : ℕ} (middle here : ℕ) → Sorted l → Searching l key low high →
-    low ≤ middle → middle < high → here ≡ key_of (pair_at l middle) → key ≤ here → Searching l key low middle
-searching-down {l} {key} middle here s b g h e c =
-    record {
-      upto = g;
-      within = omega (arith, b.within);
-      before = b.before;
-      after = λ k w v. omega (arith, sorted-le s middle k w v, e, c);
-    }
-
-pub searching-ends : {l : List (ℕ × ℕ)} {key low high : ℕ} → Searching l key low high → high ≤ low → Precede l key low
-searching-ends b h =
-    record {
-      within = omega (arith, b.upto, b.within);
-      before = b.before;
-      after = λ k w v. b.after k (omega arith) v;
-    }
-
 -- fewer pairs stand before a smaller key
 pub precede-le : {l : List (ℕ × ℕ)} {low high j k : ℕ} → Precede l low j → Precede l high k → low ≤ high → j ≤ k
 precede-le {j = j} {k = k} p q h = go (dec_lt k j)
@@ -141,17 +112,6 @@ node-precede {l} node time k s w low high e =
       before = λ j h. omega (arith, s.up j k h within);
       after = λ j h i. omega (arith, sorted-le s k j h i);
     }
-
--- the first `node` are stored, and then one more
-pub begins-more : {l : List (ℕ × ℕ)} {node : ℕ} (starts : List ℕ) (p : ℕ) →
-    ((k : ℕ) → k < node → Precede l (k * 4294967296) (get_or starts k 0)) → node < length starts →
-    Precede l (node * 4294967296) p →
-    (k : ℕ) → k < node + 1 → Precede l (k * 4294967296) (get_or (set starts node p) k 0)
-begins-more {l} {node} starts p w h q k i = go (ℕ_discrete k node)
-  where
-    go : Dec (k ≡ node) → Precede l (k * 4294967296) (get_or (set starts node p) k 0)
-    go (yes e) = rw (e, get_or-set_same starts node p 0 h) q
-    go (no e) = rw (get_or-set_other starts node k p 0 e) (w k (omega arith))
 
 -- ---- the place of a pair
 

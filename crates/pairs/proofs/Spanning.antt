@@ -1,5 +1,5 @@
--- The words in which marks stand: none, one, and those of a pin more, whose first pair has the earliest time and whose
--- last the latest. Laws: spans-none, spans-one, spans-pin. Assumes nothing.
+-- The words in which marks stand: one, and those of a pin more, whose first pair has the earliest time and whose
+-- last the latest. Laws: spans-one, nothing-asked, spans-pin. Assumes nothing.
 use mathlib.Core.Path.{◌≡◌, refl, ap}
 use mathlib.Core.Logic.{◌⊎◌, inl, inr}
 use mathlib.Core.List.{List}
@@ -7,17 +7,12 @@ use Prim.Native.Nat.{ℕ, ◌+◌, ◌-◌, ◌*◌, ◌/◌, ◌<◌, ◌≤◌
 use native.Mathlib.Omega.{arith}
 use native.Mathlib.Decide.{dec_lt}
 use lib.ListN.{length, get_or}
-use borrow.Author.Tests.{lt-ltb, le-ltb}
 use Rattle.pairs.specs.declared.Span.{Span}
-use Rattle.pairs.specs.Table.{pair_at, Sorted, Precede, Marked, Adds, Spans, pin_span, Within, PinAsks}
+use Rattle.pairs.specs.Table.{pair_at, Sorted, Precede, Marked, Adds, Spans, Within, PinAsks}
 use Rattle.pairs.proofs.Flat.{at_mem}
 use Rattle.pairs.proofs.Search.{sorted-le}
+use Rattle.pairs.proofs.Marking.{adds_none}
 use Rattle.pairs.proofs.Asking.{pin-here}
-
--- no mark
-pub spans-none : {top : ℕ} {marks : List ℕ} {span : Span} → span.high ≡ 0 → ((t : ℕ) → Marked marks t → ⊥) →
-    Spans top marks span
-spans-none e h = record { low = λ t m. absurd (h t m); high = λ t m. absurd (h t m); within = omega arith }
 
 -- one mark
 pub spans-one : {top time : ℕ} {before after : List ℕ} → time ≤ top → ((t : ℕ) → Marked before t → ⊥) →
@@ -68,9 +63,19 @@ module _ {l : List (ℕ × ℕ)} {n delay top begin end : ℕ} (sorted : Sorted 
             ),
           )
 
-  pub spans-pin : {a c : List ℕ} {span r : Span} → Spans top a span → Adds a (Within top (PinAsks l n delay)) c →
-      r ≡ pin_span l delay begin end span → Spans top c r
-  spans-pin {a} {c} {span} {r} old adds e = go (dec_lt begin end)
+  -- nothing where no pair is the pin's
+  pub nothing-asked : {marks : List ℕ} → end ≤ begin → Adds marks (Within top (PinAsks l n delay)) marks
+  nothing-asked h = adds_none (Within top (PinAsks l n delay)) (λ t u. omega (arith, (between t u).0))
+
+  pub spans-pin : {a c : List ℕ} {span r : Span} → begin < end → Spans top a span →
+      Adds a (Within top (PinAsks l n delay)) c → r.low ≡ min span.low (((pair_at l begin).1 - delay) / 64) →
+      r.high ≡ max span.high (((pair_at l (end - 1)).1 - delay) / 64 + 1) → Spans top c r
+  spans-pin {a} {c} {span} {r} h old adds e f =
+      record {
+        low = λ t m. omega (arith, first t (adds.only t m));
+        high = λ t m. omega (arith, last t (adds.only t m));
+        within = omega (arith, old.within, (here (end - 1) (omega arith) (omega arith)).2);
+      }
     where
       first : (t : ℕ) → Marked a t ⊎ Within top (PinAsks l n delay) t →
           min span.low (((pair_at l begin).1 - delay) / 64) ≤ t / 64
@@ -81,25 +86,3 @@ module _ {l : List (ℕ × ℕ)} {n delay top begin end : ℕ} (sorted : Sorted 
           t / 64 < max span.high (((pair_at l (end - 1)).1 - delay) / 64 + 1)
       last t (inl m) = omega (arith, old.high t m)
       last t (inr u) = omega (arith, (between t u).2)
-
-      -- no pair is the pin's, so that all marks are old
-      same : end ≤ begin → (t : ℕ) → Marked a t ⊎ Within top (PinAsks l n delay) t → Marked a t
-      same h t (inl m) = m
-      same h t (inr u) = absurd (omega (arith, (between t u).0))
-
-      go : Dec (begin < end) → Spans top c r
-      go (yes h) =
-          rw (e, lt-ltb begin end h)
-          (record {
-            low = λ t m. first t (adds.only t m);
-            high = λ t m. last t (adds.only t m);
-            within = omega (arith, old.within, (here (end - 1) (omega arith) (omega arith)).2);
-          })
-      go (no h) =
-          let over : end ≤ begin = omega arith in
-          rw (e, le-ltb begin end over)
-          (record {
-            low = λ t m. old.low t (same over t (adds.only t m));
-            high = λ t m. old.high t (same over t (adds.only t m));
-            within = old.within;
-          })

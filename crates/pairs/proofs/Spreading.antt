@@ -1,59 +1,17 @@
 -- From two numbers a pair to three, in place, from the last pair down: pair k is read at 2k and stored at 3k, which no
--- pair still to be read has reached. Laws: three-stored; spreading-starts, spreading-more, spreading-ends;
--- spread-single, spread-apart, three-fit, spread-room. Assumes nothing.
+-- pair still to be read has reached. Laws: spreading-starts, spreading-more, spreading-ends;
+-- spread-single, spread-room. Assumes nothing.
 use mathlib.Core.Path.{◌≡◌, refl, sym, ap, ap₂, ◌∙◌}
 use mathlib.Core.List.{List, [], ◌∷◌, ◌++◌}
 use Prim.Native.Nat.{ℕ, zero, suc, ◌+◌, ◌*◌, ◌-◌, ◌/◌, ◌%◌, ◌<◌, ◌≤◌}
 use native.Mathlib.Omega.{arith}
-use lib.ListN.{
-  length,
-  get_or,
-  set,
-  take,
-  drop,
-  replicate,
-  length-set,
-  drop_of_length-le,
-}
-use lib.Seq.{get_or-take, get_or-set_other, drop-cons, drop_at, drop-drop, take_at, length-take-le}
-use Rattle.netlist.specs.declared.Form.{Form}
-use Rattle.netlist.specs.declared.Form.TheVariants.{Single, RiseFall}
-use Rattle.netlist.specs.Netlist.{apart, slopes_by}
+use lib.ListN.{length, get_or, take, drop, replicate, drop_of_length-le}
+use lib.Seq.{get_or-take, drop-cons, drop_at, drop-drop, take_at, length-take-le}
+use Rattle.netlist.specs.Netlist.{Slopes, alike, apart}
 use Rattle.pairs.specs.Pairs.{flat_pairs, lent_pairs, pair_numbers, table_holds}
 use Rattle.pairs.specs.Table.{pairs_in, pair_at, Put}
 use Rattle.pairs.specs.Promise.{Spread}
 use Rattle.pairs.proofs.Flat.{pairs-flat, pairs-length, pairs-at, flat-length}
-
--- ---- the three stores
-
-three-at : (t : List ℕ) (i a b c : ℕ) → i + 2 < length t →
-    drop i (set (set (set t i a) (i + 1) b) (i + 2) c) ≡ a ∷ b ∷ c ∷ drop (i + 3) t
-three-at (x ∷ y ∷ z ∷ t) zero a b c h = refl
-three-at [] i a b c h = absurd (omega arith)
-three-at (x ∷ []) i a b c h = absurd (omega arith)
-three-at (x ∷ y ∷ []) i a b c h = absurd (omega arith)
-three-at (x ∷ y ∷ z ∷ t) (suc i) a b c h =
-    let e : suc i + 1 ≡ suc (i + 1) = omega arith in
-    let f : suc i + 2 ≡ suc (i + 2) = omega arith in
-    let g : suc i + 3 ≡ suc (i + 3) = omega arith in
-    rw (e, f, g) (three-at (y ∷ z ∷ t) i a b c (omega arith))
-
-pub three-stored : (t : List ℕ) (k rail time : ℕ) → k * 3 + 2 < length t →
-    Put t k rail time (set (set (set t (k * 3) (rail / 2)) (k * 3 + 1) (rail % 2)) (k * 3 + 2) time)
-three-stored t k rail time h =
-    let one = set t (k * 3) (rail / 2) in
-    let two = set one (k * 3 + 1) (rail % 2) in
-    record {
-      len = simp length-set;
-      is = three-at t (k * 3) (rail / 2) (rail % 2) time h;
-      low =
-          λ j l.
-          get_or-set_other two (k * 3 + 2) j time 0 (λ e. omega arith)
-          ∙ get_or-set_other one (k * 3 + 1) j (rail % 2) 0 (λ e. omega arith)
-          ∙ get_or-set_other t (k * 3) j (rail / 2) 0 (λ e. omega arith);
-    }
-
--- ---- pair after pair
 
 -- pairs from k on are stored, those before it are still to be read
 pub record Spreading (l : List (ℕ × ℕ)) (table₀ table : List ℕ) (count k : ℕ) : Type 0 where
@@ -169,24 +127,12 @@ spreading-ends {table₀} {table} {count} {k} falls w z =
     }
 
 -- where a pair has two numbers, nothing is to be done
-pub spread-single : (form : Form) (falls table : List ℕ) (count : ℕ) → form ≡ Single →
-    Spread (slopes_by form falls) table count table
+pub spread-single : (table : List ℕ) (count : ℕ) → Spread alike table count table
 unfolding lent_pairs
-spread-single form falls table count e = rw e (record { is = λ pairs all is. is })
+spread-single table count = record { is = λ pairs all is. is }
 
--- and where it has three
-pub spread-apart : (form : Form) (falls table after : List ℕ) (count : ℕ) → form ≡ RiseFall →
-    Spread (apart falls) table count after → Spread (slopes_by form falls) table count after
-spread-apart form falls table after count e w = rw e w
-
--- there is room for three numbers a pair
-pub three-fit : (form : Form) (count room : ℕ) → form ≡ RiseFall →
-    ((falls : List ℕ) → count * pair_numbers (slopes_by form falls) ≤ room) → count * 3 ≤ room
-three-fit form count room e h = rw e at (h [])
-
--- what a table holds fits, whatever the delays
-pub spread-room : (form : Form) (falls : List ℕ) (count room : ℕ) →
-    count ≤ table_holds (pair_numbers (slopes_by form falls)) room →
-    (other : List ℕ) → count * pair_numbers (slopes_by form other) ≤ room
-spread-room Single falls count room h other = omega arith
-spread-room RiseFall falls count room h other = omega arith
+-- what a table holds fits
+pub spread-room : (slopes : Slopes) (count room : ℕ) → count ≤ table_holds (pair_numbers slopes) room →
+    count * pair_numbers slopes ≤ room
+spread-room alike count room h = omega arith
+spread-room (apart falls) count room h = omega arith

@@ -1,5 +1,5 @@
 -- The tops of all nodes, one gate after the other: the nodes before a gate have their tops, and the gate's is when its
--- last pin is ready by these. Laws: readying-starts, readying-more, readying-ends; topping-starts, topping-small,
+-- last pin is ready by these. Laws: readying-more, readying-ends; topping-starts, topping-small,
 -- topping-more, topping-ends; tops-late, topped-tops, topped-arrivals, topped-given, top_read, tops-long.
 -- Assumes nothing.
 use mathlib.Core.Path.{◌≡◌, refl, sym, ap, ap₂, ◌∙◌}
@@ -62,22 +62,18 @@ pub record Readying (file : List ℕ) (shape : Shape) (slopes : Slopes) (number 
       (slowest slopes (drop k (cell_at file shape number).pins)))
       ≡ last (ready_at (λ node. get_or tops node 0)) (slowest slopes (cell_at file shape number).pins)
 
-pub readying-starts : (file : List ℕ) (shape : Shape) (slopes : Slopes) (number : ℕ) (tops : List ℕ) →
-    Readying file shape slopes number tops 0 0
-readying-starts file shape slopes number tops = record { left = omega arith }
-
 pub readying-more : {file : List ℕ} {shape : Shape} {slopes : Slopes} {number : ℕ} {tops : List ℕ} {latest k : ℕ}
-    (g : Gate) (driver delay top z : ℕ) → g ≡ gate_at file shape number →
+    (g : Gate) (driver delay z : ℕ) → g ≡ gate_at file shape number →
     Readying file shape slopes number tops latest k →
     k < g.count → driver ≡ driver_at file shape (g.first + k) → delay ≡ slow_at file shape slopes (g.first + k) →
-    top ≡ get_or tops driver 0 → z ≡ max latest (top + delay) → Readying file shape slopes number tops z (k + 1)
-readying-more {file} {shape} {slopes} {number} {tops} {latest} {k} g driver delay top z own b h e f t q =
+    z ≡ max latest (get_or tops driver 0 + delay) → Readying file shape slopes number tops z (k + 1)
+readying-more {file} {shape} {slopes} {number} {tops} {latest} {k} g driver delay z own b h e f q =
     let pins = (cell_at file shape number).pins in
     let fields = gate-fields file shape number g own in
     let pin = first_at file shape number + k in
     let same : g.first + k ≡ first_at file shape number + k = omega (arith, fields.0) in
-    let r : get_or tops (pin_at file shape (first_at file shape number + k)).driver 0 ≡ top =
-    ap (λ (n : ℕ). get_or tops n 0) (pin-driver file shape pin ∙ sym (e ∙ ap (driver_at file shape) same)) ∙ sym t
+    let r : get_or tops (pin_at file shape (first_at file shape number + k)).driver 0 ≡ get_or tops driver 0 =
+    ap (λ (n : ℕ). get_or tops n 0) (pin-driver file shape pin ∙ sym (e ∙ ap (driver_at file shape) same))
     in
     let d : delay ≡ slow_of slopes (pin_at file shape (first_at file shape number + k)) =
     f ∙ ap (slow_at file shape slopes) same ∙ slow-pin file shape slopes pin

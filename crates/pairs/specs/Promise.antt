@@ -5,8 +5,7 @@ use Rattle.netlist.specs.declared.Shape.{Shape}
 use Rattle.netlist.specs.Netlist.{Slopes}
 use Rattle.netlist.specs.File.{circuit_with}
 use Rattle.settle.specs.Settling.{tops_of}
-use Rattle.pairs.specs.declared.Listed.{Listed}
-use Rattle.pairs.specs.declared.Listed.TheVariants.{Count, TooMany}
+use Rattle.std.specs.Prelude.{Option, Some, None}
 use Rattle.pairs.specs.Pairs.{flat_pairs, lent_pairs, pairs_for, pair_numbers, table_holds}
 use Rattle.pairs.specs.Rising.{Before, Rising}
 use Rattle.pairs.specs.Table.{Precede}
@@ -29,11 +28,11 @@ pairs_at file shape arrivals slopes target = pairs_for (circuit_with file shape 
 
 -- the pairs, two numbers each, and then zeros; or, where they are over 65,536 or the lent table has no room for them
 -- (row 10), zeros
-abbrev pub Held : Slopes → List (ℕ × ℕ) → ℕ → List ℕ → Listed → Type 0
-Held slopes pairs room table (Count n) =
+abbrev pub Held : Slopes → List (ℕ × ℕ) → ℕ → List ℕ → Option ℕ → Type 0
+Held slopes pairs room table (Some n) =
     (n ≡ length pairs) × (n ≤ table_holds (pair_numbers slopes) room)
     × (table ≡ flat_pairs pairs ++ replicate (room - n * 2) 0)
-Held slopes pairs room table TooMany =
+Held slopes pairs room table None =
     (table_holds (pair_numbers slopes) room < length pairs) × (table ≡ replicate room 0)
 
 -- a table of so many pairs, two numbers each, becomes the lent table of these pairs (rule F6)

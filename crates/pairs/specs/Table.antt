@@ -1,35 +1,14 @@
 -- What the functions on the lent table say: its numbers as pairs, what a search in it finds, times as marks, what asks
 -- for a pair where the pairs after it are known, and the pins of each node in chains. Interface: none of it; it serves
 -- the functions under `table` and `place`.
-use Rattle.std.specs.Prelude.{
-  ◌≡◌,
-  cond,
-  ◌⊎◌,
-  ℕ,
-  suc,
-  ◌+◌,
-  ◌-◌,
-  ◌*◌,
-  ◌/◌,
-  ◌%◌,
-  ◌^◌,
-  ◌≤◌,
-  ◌<◌,
-  min,
-  max,
-  ltb,
-  length,
-  get_or,
-  drop,
-}
+use Rattle.std.specs.Prelude.{◌≡◌, ◌⊎◌, ℕ, suc, ◌+◌, ◌-◌, ◌*◌, ◌/◌, ◌%◌, ◌^◌, ◌≤◌, ◌<◌, max, length, get_or, drop}
 use mathlib.Core.List.{List, [], ◌∷◌, Memᴰ}
 use Rattle.netlist.specs.declared.Shape.{Shape}
 use Rattle.netlist.specs.Netlist.{Slopes, alike, apart}
 use Rattle.netlist.specs.File.{first_at, count_at, driver_at, delay_at, netlist_at}
 use Rattle.settle.specs.Steps.{latest}
-use Rattle.pairs.specs.declared.Filled.{Filled}
+use Rattle.std.specs.Prelude.{Option, Some, None}
 use Rattle.pairs.specs.declared.Span.{Span}
-use Rattle.pairs.specs.declared.Filled.TheVariants.{From, Full}
 use Rattle.pairs.specs.Pairs.{flat_pairs}
 
 -- ---- numbers as pairs
@@ -94,12 +73,6 @@ pub record Highest (word k : ℕ) : Type 0 where
   pub least : 2 ^ k ≤ word
   pub most : word < 2 ^ suc k
 
--- r is the last word with a mark, of those up to one; one not above `low` where there is none
-pub record LastWord (marks : List ℕ) (low from r : ℕ) : Type 0 where
-  pub within : r ≤ from
-  pub empty : (k : ℕ) → r < k → k ≤ from → get_or marks k 0 ≡ 0
-  pub first : get_or marks r 0 ≡ 0 → r ≤ low
-
 -- so many words are one more than the times up to the target and the largest top take, 64 times a word
 abbrev pub Roomy : ℕ → ℕ → Type 0
 Roomy target words = (t : ℕ) → t ≤ target → t ≤ latest → t / 64 + 1 < words
@@ -109,16 +82,6 @@ pub record Spans (top : ℕ) (marks : List ℕ) (span : Span) : Type 0 where
   pub low : (t : ℕ) → Marked marks t → span.low ≤ t / 64
   pub high : (t : ℕ) → Marked marks t → t / 64 < span.high
   pub within : span.high ≤ top / 64 + 1
-
--- a span, and the words of the times of the pairs from `begin` to before `end`, less a delay
-abbrev pub pin_span : List (ℕ × ℕ) → ℕ → ℕ → ℕ → Span → Span
-pin_span l delay begin end span =
-    cond (ltb begin end)
-    (record {
-      low = min span.low (((pair_at l begin).1 - delay) / 64);
-      high = max span.high (((pair_at l (end - 1)).1 - delay) / 64 + 1);
-    })
-    span
 
 -- ---- delays by the file and the lent list
 
@@ -225,9 +188,9 @@ pub record Ended (l : List (ℕ × ℕ)) (first last : ℕ) (ends : List ℕ) (l
   pub of : (number : ℕ) → low ≤ first + number → first + number ≤ last → EndsAt l (first + number) ends number
 
 -- the table's end holds the pairs l, or they are more than there is room for
-abbrev pub Kept : List (ℕ × ℕ) → ℕ → List ℕ → Filled → Type 0
-Kept l room table (From k) = (k + length l ≡ room) × (drop (k * 2) table ≡ flat_pairs l)
-Kept l room table Full = room < length l
+abbrev pub Kept : List (ℕ × ℕ) → ℕ → List ℕ → Option ℕ → Type 0
+Kept l room table (Some k) = (k + length l ≡ room) × (drop (k * 2) table ≡ flat_pairs l)
+Kept l room table None = room < length l
 
 -- a pair is stored at three places, and what is before it stays
 pub record Put (before : List ℕ) (k rail time : ℕ) (after : List ℕ) : Type 0 where

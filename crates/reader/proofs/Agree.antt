@@ -1,16 +1,8 @@
 -- Stepping through a list gives its clauses in order, and past the last of them nothing: what is left of the list at
 -- the reader's place is cut into the clauses that are still to come. Assumes nothing.
-use mathlib.Core.Path.{◌≡◌, refl, sym, ap, ◌∙◌}
-use mathlib.Core.Bool.{Bool, cond}
-use mathlib.Core.List.{List, [], ◌∷◌, ◌++◌, append_assoc}
-use Prim.Native.Nat.{ℕ, zero, suc, ◌+◌}
-use native.Mathlib.Nat.{zero-add, add-zero, suc-add, add-suc}
-use native.Mathlib.Omega.{arith}
-use lib.Dec.{eqb}
-use lib.IntN.{ℤ, pos, negsuc}
-use lib.ListN.{length, get_or, take, drop}
-use lib.Seq.{drop-drop}
-use borrow.Author.Tests.{ne_eqb}
+use Rattle.std.proofs.Common.{◌≡◌, refl, sym, ap, ◌∙◌, Bool, cond, List, [], ◌∷◌, ◌++◌, append_assoc, ℕ, zero}
+use Rattle.std.proofs.Common.{suc, ◌+◌, zero-add, add-zero, suc-add, add-suc, arith, eqb, ℤ, pos, negsuc}
+use Rattle.std.proofs.Common.{length, get_or, take, drop, drop-drop, ne_eqb}
 use Rattle.refute.specs.Parts.{parts_from, parts}
 use Rattle.reader.specs.Reading.{longer, first_length, length_at, start_at, clause_at, next_at, place_after}
 

@@ -1,16 +1,10 @@
 -- How long the clause at a place is, told by the place of the next 0, and the part that it makes: it lies within the
 -- list. Assumes nothing.
-use mathlib.Core.Path.{◌≡◌, refl, sym, ap, ap₂, subst, ◌∙◌}
-use mathlib.Core.Bool.{Bool, cond}
-use mathlib.Core.List.{List, [], ◌∷◌}
-use Prim.Native.Nat.{ℕ, zero, suc, ◌+◌, ◌-◌, ◌<◌, ◌≤◌}
-use native.Mathlib.Omega.{arith}
-use native.Mathlib.Nat.{le_of_suc-le-suc, not-suc-le-zero}
-use lib.IntN.{ℤ, pos, negsuc}
-use lib.ListN.{length, get_or, take, drop, length-drop, drop_of_length-le}
-use lib.Seq.{get_or-drop, take-nil}
-use denote.Ref.{Bor}
-use borrow.Author.Tests.{eq-eqb, ne_eqb}
+use Rattle.std.proofs.Common.{◌≡◌, refl, sym, ap, ap₂, subst, ◌∙◌, Bool, cond, List, [], ◌∷◌, ℕ, zero, suc}
+use Rattle.std.proofs.Common.{◌+◌, ◌-◌, ◌<◌, ◌≤◌, arith, le_of_suc-le-suc, not-suc-le-zero, ℤ, pos, negsuc}
+use Rattle.std.proofs.Common.{length, get_or, take, drop, length-drop, drop_of_length-le, get_or-drop, Bor}
+use Rattle.std.proofs.Common.{eq-eqb, ne_eqb}
+use lib.Seq.{take-nil}
 use Rattle.clauses.specs.Codes.{code_of}
 use Rattle.refute.specs.Reading.{NextZero}
 use Rattle.refute.proofs.Walking.{NoZero, no_zero}
@@ -47,27 +41,12 @@ no-first [] f = refl
 no-first (z ∷ zs) f =
     length-grows z zs (f 0 (omega arith)) ∙ ap longer (no-first zs (λ k l. f (suc k) (omega arith)))
 
-longer-within : (n m : ℕ) → n ≤ m → longer n ≤ suc m
-longer-within zero m h = omega arith
-longer-within (suc n) m h = omega arith
-
-first-within : (zs : List ℤ) → first_length zs ≤ length zs
-unfolding first_length
-first-within [] = omega arith
-first-within (pos zero ∷ zs) = omega arith
-first-within (pos (suc n) ∷ zs) = longer-within (first_length zs) (length zs) (first-within zs)
-first-within (negsuc n ∷ zs) = longer-within (first_length zs) (length zs) (first-within zs)
-
 -- ---- the clause at a place
-
--- it ends within the list
-pub within : (list : List ℤ) (at : ℕ) → length_at list at ≤ length list - at
-unfolding length_at
-within list at = subst (λ (n : ℕ). first_length (drop at list) ≤ n) (length-drop at list) (first-within (drop at list))
 
 -- past the end there is none
 pub past_end : (list : List ℤ) (at : ℕ) → length list ≤ at → 0 ≡ length_at list at
-past_end list at h = omega (arith, within list at)
+unfolding first_length length_at
+past_end list at h = sym (ap first_length (drop_of_length-le list {i = at} h))
 
 module _ {list : List ℤ} {at to : ℕ} (z : NextZero list at to) where
   -- the next 0 ends it

@@ -1,13 +1,8 @@
 -- The contracts leave one answer each: two parts given at one place hold the same numbers and lie at the same point,
 -- two readers of one slice at one place are the same, and so are two places of the next 0. The other answers are
 -- equations. Assumes nothing.
-use mathlib.Core.Path.{◌≡◌, sym, ap₂, ◌∙◌}
-use mathlib.Core.List.{List}
-use Prim.Native.Nat.{ℕ, ◌<◌}
-use native.Mathlib.Omega.{arith}
+use Rattle.std.proofs.Common.{◌≡◌, sym, ap₂, ◌∙◌, List, ℕ, ◌<◌, arith, ℤ, Bor}
 use native.Mathlib.Decide.{dec_lt}
-use lib.IntN.{ℤ}
-use denote.Ref.{Bor}
 use Rattle.refute.specs.Reading.{NextZero}
 use Rattle.reader.specs.Reading.{PartAt}
 use Rattle.reader.specs.declared.Reader.{Reader}

@@ -2,7 +2,7 @@
 // methods are thin; the work is done by functions on a plain slice and a place. Assumes nothing.
 #![tactic(auto)]
 
-ghost use Rattle.std.specs.Prelude.{◌≡◌, get_or, []};
+ghost use Rattle.std.specs.Prelude.{◌≡◌, [], ◌-◌, ◌≤◌, length, get_or};
 ghost use Rattle.refute.specs.Parts.{parts};
 ghost use Rattle.reader.specs.Reading.{length_at, next_at, PartAt};
 
@@ -15,16 +15,16 @@ pub struct Reader<'a> {
 
 // How many numbers the clause at a place has, its 0 among them; none where no 0 is left or the place is past the end.
 pub fn length_from(list: &[i32], at: usize) -> usize
-    ensures { result ≡ length_at list.now at }
+    ensures value { result ≡ length_at list.now at }
+    ensures within { result ≤ length list.now - at }
 {
     if list.len() <= at {
         return 0;
     }
-    let zero = refute::next_zero(list, at);
-    if zero == list.len() {
-        return 0;
+    match refute::next_zero(list, at) {
+        Some(zero) => zero - at + 1,
+        None => 0,
     }
-    zero - at + 1
 }
 
 // The clause at a place, with its 0, as a part of the slice; where there is none, the empty part at the slice's end.
@@ -33,14 +33,13 @@ pub fn clause_from(list: &[i32], at: usize) -> &[i32]
 {
     let length = length_from(list, at);
     if length == 0 {
-        let end = list.len();
-        return &list[end..];
+        return &list[list.len()..];
     }
-    let end = at + length;
-    &list[at..end]
+    &list[at..at + length]
 }
 
 // The place past the clause at a place; the same place where there is none.
+#[tactic(auto, unfolding(crate::specs::Reading::next_at))]
 pub fn next_from(list: &[i32], at: usize) -> usize
     ensures { result ≡ next_at list.now at }
 {
@@ -48,8 +47,9 @@ pub fn next_from(list: &[i32], at: usize) -> usize
 }
 
 // A reader at the formula's first number.
-pub fn read<'a>(formula: &'a [i32]) -> Reader<'a>
-    ensures { (result.formula ≡ formula.entry) × (result.at ≡ 0) }
+pub fn read(formula: &[i32]) -> Reader<'_>
+    ensures formula { result.formula ≡ formula.entry }
+    ensures at { result.at ≡ 0 }
 {
     Reader { formula, at: 0 }
 }
@@ -63,14 +63,13 @@ impl<'a> Reader<'a> {
     }
 
     // The reader past its clause; where there is none, it stays.
-    pub fn step(self) -> Reader<'a>
-        ensures { (result.formula ≡ self.entry.formula)
-            × (result.at ≡ next_at self.entry.formula.now self.entry.at) }
+    pub fn step(self) -> Self
+        ensures formula { result.formula ≡ self.entry.formula }
+        ensures at { result.at ≡ next_at self.entry.formula.now self.entry.at }
     {
-        let at = next_from(self.formula, self.at);
         Reader {
-            formula: self.formula,
-            at,
+            at: next_from(self.formula, self.at),
+            ..self
         }
     }
 }
@@ -78,8 +77,8 @@ impl<'a> Reader<'a> {
 // The clause that a reader of the formula gives after one step: the formula's second, or the empty part at its end. Who
 // calls it needs no reader of his own.
 pub fn second_clause(formula: &[i32]) -> &[i32]
-    ensures { (result.now ≡ get_or (parts formula.now) 1 [])
-        × PartAt formula.entry (next_at formula.now 0) result }
+    ensures second { result.now ≡ get_or (parts formula.now) 1 [] }
+    ensures part { PartAt formula.entry (next_at formula.now 0) result }
 {
     read(formula).step().clause()
 }

@@ -6,19 +6,18 @@ use mathlib.Core.List.{List, [], ◌∷◌, ◌++◌}
 use Prim.Native.Nat.{ℕ}
 use native.Mathlib.Omega.{arith}
 use Rattle.refusal.specs.declared.Refusal.{Refusal}
-use Rattle.refusal.specs.declared.Checked.{Checked}
-use Rattle.refusal.specs.declared.Checked.TheVariants.{Passes, Refused}
-use Rattle.refusal.specs.Rows.{Row, checked}
+use Rattle.std.specs.Prelude.{Ok, Err}
+use Rattle.refusal.specs.Rows.{Checked, Row, checked}
 
 -- a refusal is no passing
-pub apart : {A : Type 0} {answer : Checked} {refusal : Refusal} → answer ≡ Refused refusal → answer ≡ Passes → A
+pub apart : {A : Type 0} {answer : Checked} {refusal : Refusal} → answer ≡ Err refusal → answer ≡ Ok tt → A
 apart p q = let w : ◌≡◌ {A = ℕ} 0 1 = cc in absurd (omega arith)
 
 -- ---- one row before others
 
 -- it refuses
 pub stops : {when : Bool} (refusal : Refusal) (rows : List Row) → when ≡ true →
-    checked ((when, refusal) ∷ rows) ≡ Refused refusal
+    checked ((when, refusal) ∷ rows) ≡ Err refusal
 stops refusal rows e = ap (λ (b : Bool). checked ((b, refusal) ∷ rows)) e
 
 -- it leaves it to the rest
@@ -27,40 +26,40 @@ pub goes_on : {when : Bool} (refusal : Refusal) (rows : List Row) → when ≡ f
 goes_on refusal rows e = ap (λ (b : Bool). checked ((b, refusal) ∷ rows)) e
 
 -- where all are passed, it did, and so did the rest
-pub passed-by : (when : Bool) (refusal : Refusal) (rows : List Row) → checked ((when, refusal) ∷ rows) ≡ Passes →
-    (when ≡ false) × (checked rows ≡ Passes)
+pub passed-by : (when : Bool) (refusal : Refusal) (rows : List Row) → checked ((when, refusal) ∷ rows) ≡ Ok tt →
+    (when ≡ false) × (checked rows ≡ Ok tt)
 passed-by true refusal rows e = apart refl e
 passed-by false refusal rows e = (refl, e)
 
 -- ---- some rows before others
 
 -- they refuse
-pub refused-first : (rows more : List Row) {refusal : Refusal} → checked rows ≡ Refused refusal →
-    checked (rows ++ more) ≡ Refused refusal
+pub refused-first : (rows more : List Row) {refusal : Refusal} → checked rows ≡ Err refusal →
+    checked (rows ++ more) ≡ Err refusal
 refused-first [] more e = apart e refl
 refused-first (row ∷ rows) more {refusal} e = go row.0 e (λ r. refused-first rows more r)
   where
-    go : (b : Bool) → cond b (Refused row.1) (checked rows) ≡ Refused refusal →
-        (checked rows ≡ Refused refusal → checked (rows ++ more) ≡ Refused refusal) →
-        cond b (Refused row.1) (checked (rows ++ more)) ≡ Refused refusal
+    go : (b : Bool) → cond b (Err row.1) (checked rows) ≡ Err refusal →
+        (checked rows ≡ Err refusal → checked (rows ++ more) ≡ Err refusal) →
+        cond b (Err row.1) (checked (rows ++ more)) ≡ Err refusal
     go true e rest = e
     go false e rest = rest e
 
 -- they leave it to the rest
-pub passed_first : (rows more : List Row) → checked rows ≡ Passes → checked (rows ++ more) ≡ checked more
+pub passed_first : (rows more : List Row) → checked rows ≡ Ok tt → checked (rows ++ more) ≡ checked more
 passed_first [] more e = refl
 passed_first (row ∷ rows) more e =
     let p = passed-by row.0 row.1 rows e in
     goes_on row.1 (rows ++ more) p.0 ∙ passed_first rows more p.1
 
 -- where all are passed, they are
-pub first_passes : (rows more : List Row) → checked (rows ++ more) ≡ Passes → checked rows ≡ Passes
+pub first_passes : (rows more : List Row) → checked (rows ++ more) ≡ Ok tt → checked rows ≡ Ok tt
 first_passes [] more e = refl
 first_passes (row ∷ rows) more e =
     let p = passed-by row.0 row.1 (rows ++ more) e in
     goes_on row.1 rows p.0 ∙ first_passes rows more p.1
 
 -- and so are the rest
-pub rest-passes : (rows more : List Row) → checked (rows ++ more) ≡ Passes → checked more ≡ Passes
+pub rest-passes : (rows more : List Row) → checked (rows ++ more) ≡ Ok tt → checked more ≡ Ok tt
 rest-passes [] more e = e
 rest-passes (row ∷ rows) more e = rest-passes rows more (passed-by row.0 row.1 (rows ++ more) e).1

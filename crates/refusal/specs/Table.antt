@@ -1,5 +1,6 @@
--- The table of refusals (rule T1): the number and the place of each case. Interface: both definitions.
-use Rattle.std.specs.Prelude.{ℕ}
+-- The table of refusals (rule T1): the number and the place of each case. Interface: all of it.
+use Rattle.std.specs.Prelude.{ℕ, List, ◌++◌, codes}
+use Rattle.std.specs.Fmt.{decimal}
 use Rattle.refusal.specs.declared.Refusal.{Refusal}
 use Rattle.refusal.specs.declared.Refusal.TheVariants.{
   Short,
@@ -60,3 +61,11 @@ place_of (Step clause) = clause
 place_of (Witness time) = time
 place_of (Arrival position) = position
 place_of (Fall pin) = pin
+
+-- a space and a number
+abbrev pub number_text : ℕ → List ℕ
+number_text number = codes " " ++ decimal number
+
+-- as it is printed: the words `refused number place`
+abbrev pub refusal_text : Refusal → List ℕ
+refusal_text refusal = codes "refused" ++ (number_text (number_of refusal) ++ number_text (place_of refusal))

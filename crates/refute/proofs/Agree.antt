@@ -1,95 +1,25 @@
 -- The passes say what the order-free rule says. All that they make true is forced; and where a pass makes no mark and
 -- meets no false clause, what is true is closed under the rule, so nothing more is forced. Assumes nothing.
-use mathlib.Core.Path.{◌≡◌, refl, sym, ap, subst, ◌∙◌}
-use mathlib.Core.Bool.{Bool, true, false, cond}
+use Rattle.std.proofs.Common.{◌≡◌, refl, sym, ap, subst, ◌∙◌, Bool, true, false, cond, List, [], ◌∷◌, ◌++◌}
+use Rattle.std.proofs.Common.{append-nil, append_assoc, ◌↔◌, ◌⊎◌, inl, inr, ◌≢◌, ⊎_elim, ℕ, zero, suc, ◌+◌}
+use Rattle.std.proofs.Common.{◌<◌, ◌≤◌, arith, T, length, replicate}
 use mathlib.Core.List.Memᴰ
-use mathlib.Core.List.{
-  List,
-  [],
-  ◌∷◌,
-  ◌++◌,
-  Memᴰ,
-  append-nil,
-  append_assoc,
-}
-use mathlib.Core.Logic.{◌↔◌, ◌⊎◌, inl, inr, ◌≢◌, ⊎_elim}
-use Prim.Native.Nat.{ℕ, zero, suc, ◌+◌, ◌<◌, ◌≤◌}
-use native.Mathlib.Omega.{arith}
-use lib.Dec.{T}
-use lib.ListN.{length, replicate, length-replicate}
+use mathlib.Core.List.{Memᴰ}
+use lib.ListN.{length-replicate}
 use Rattle.basics.specs.Lists.{any, all, keep}
 use Rattle.basics.proofs.Truth.{decide, holds}
-use Rattle.basics.proofs.Lists.{
-  any_at,
-  any_of,
-  all-at,
-  all_of,
-  mem-map,
-  map-mem,
-  keep-in,
-  keep-passes,
-  keep-within,
-}
+use Rattle.basics.proofs.Lists.{any_at, any_of, all-at, all_of, mem-map, map-mem, keep-in, keep-passes}
+use Rattle.basics.proofs.Lists.{keep-within}
 use Rattle.clauses.specs.Clauses.{Literal, opposite}
-use Rattle.refute.specs.Propagation.{
-  assertions,
-  Forced,
-  given,
-  unit,
-  Follows,
-  clash,
-  conflict,
-  Verdict,
-  passes,
-  stops,
-  Judged,
-}
-use Rattle.refute.specs.Passes.{
-  same,
-  is_true,
-  is_free,
-  assign,
-  Said,
-  refuted,
-  quiet,
-  forces,
-  say_free,
-  say,
-  Pass,
-  hit,
-  done,
-  pass,
-  refutes,
-  Asserted,
-  contradict,
-  marked,
-  assert,
-  follows,
-  next,
-  verdict,
-}
-use Rattle.refute.proofs.Marks.{
-  both,
-  same-is,
-  same-itself,
-  same_or_not,
-  opposite-twice,
-  not-both,
-  free-not-false,
-  Tidy,
-  denied,
-  assign-length,
-  assign-tidy,
-  assign-cases,
-  assign-keeps,
-  assign-there,
-  nat_of,
-  zeros,
-  zeros-bound,
-  zeros-assign,
-  zeros-tidy,
-  zeros-none,
-}
+use Rattle.refute.specs.Propagation.{assertions, Forced, given, unit, Follows, clash, conflict, Verdict}
+use Rattle.refute.specs.Propagation.{passes, stops, Judged}
+use Rattle.refute.specs.Passes.{same, is_true, is_free, assign, Said, refuted, quiet, forces, say_free, say}
+use Rattle.refute.specs.Passes.{Pass, hit, done, pass, refutes, Asserted, contradict, marked, assert, follows}
+use Rattle.refute.specs.Passes.{next, verdict}
+use Rattle.refute.proofs.Marks.{both, same-is, same-itself, same_or_not, opposite-twice, not-both}
+use Rattle.refute.proofs.Marks.{free-not-false, Tidy, denied, assign-length, assign-tidy, assign-cases}
+use Rattle.refute.proofs.Marks.{assign-keeps, assign-there, nat_of, zeros, zeros-bound, zeros-assign}
+use Rattle.refute.proofs.Marks.{zeros-tidy, zeros-none}
 
 -- ---- what a clause says
 

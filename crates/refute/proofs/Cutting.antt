@@ -1,46 +1,20 @@
 -- A list cut behind each 0: what a walk from part to part finds, and that the place found holds the numbered part.
 -- Assumes nothing.
-use mathlib.Core.Path.{◌≡◌, refl, sym, ap, ap₂, subst, ◌∙◌}
-use mathlib.Core.Bool.{Bool, true, false, cond}
-use mathlib.Core.List.{List, [], ◌∷◌, ◌++◌, append-nil, append_assoc}
-use Prim.Native.Nat.{ℕ, zero, suc, ◌+◌, ◌-◌, ◌<◌, ◌≤◌}
-use native.Mathlib.Omega.{arith}
-use native.Mathlib.Nat.{le_of_suc-le-suc, not-suc-le-zero, zero-add, sub-zero}
-use lib.Dec.{ltb}
-use lib.IntN.{ℤ, pos, negsuc}
-use lib.ListN.{
-  length,
-  get_or,
-  take,
-  drop,
-  length-append,
-  length-take,
-  length-drop,
-  drop_of_length-le,
-  get_or-append,
-  get_or-eq_default,
-}
-use lib.Seq.{drop-drop, take_at, take-append_seam, drop-append-add, get_or-append-add, get_or-drop}
-use borrow.Author.Tests.{lt-ltb, le-ltb, ltb-true, ltb-false}
-use denote.Ref.{Bor}
+use Rattle.std.proofs.Common.{◌≡◌, refl, sym, ap, ap₂, subst, ◌∙◌, Bool, true, false, cond, List, [], ◌∷◌}
+use Rattle.std.proofs.Common.{◌++◌, append-nil, append_assoc, ℕ, zero, suc, ◌+◌, ◌-◌, ◌<◌, ◌≤◌, arith}
+use Rattle.std.proofs.Common.{le_of_suc-le-suc, not-suc-le-zero, ltb, ℤ, pos, negsuc, length, get_or, take}
+use Rattle.std.proofs.Common.{drop, length-append, length-take, length-drop, drop-drop, take_at}
+use Rattle.std.proofs.Common.{get_or-append-add, get_or-drop, lt-ltb, le-ltb, ltb-true, ltb-false, Bor, Ok}
+use Rattle.std.proofs.Common.{Err}
+use native.Mathlib.Nat.{sub-zero}
+use lib.ListN.{get_or-append, get_or-eq_default}
+use lib.Seq.{take-append_seam, drop-append-add}
 use Rattle.basics.specs.Lists.{concat_map}
 use Rattle.clauses.specs.Codes.{code_of}
-use Rattle.refute.specs.Parts.{
-  parts_from,
-  parts,
-  start_of,
-  found_in,
-  span_second,
-  span_first,
-  span_of,
-  spanned,
-  ClausePart,
-  point_at,
-}
+use Rattle.refute.specs.Parts.{parts_from, parts, start_of, stretch, found_in, span_second, span_first}
+use Rattle.refute.specs.Parts.{span_of, spanned, span_lies, ClausePart}
 use Rattle.refute.specs.Reading.{NextZero}
 use Rattle.refute.specs.declared.Span.{Span}
-use Rattle.refute.specs.declared.Found.TheVariants.{At, Beyond}
-use Rattle.refute.proofs.Marks.{both}
 use Rattle.refute.proofs.Walking.{NoZero, no_zero}
 
 abbrev joined : List (List ℤ) → List ℤ
@@ -113,33 +87,18 @@ pub record Finding (list : List ℤ) (number start left : ℕ) : Type 0 where
   pub count : length passed + left ≡ number
   pub place : start ≡ length (joined passed)
 
-pub finding-starts : (list : List ℤ) (number : ℕ) → Finding list number 0 number
-finding-starts list number =
-    record { upto = omega arith; passed = []; are = refl; count = zero-add number; place = refl }
-
 module _ {list : List ℤ} {number start left : ℕ} (b : Finding list number start left) where
   -- no part is left
-  pub found_none : parts (drop start list) ≡ [] → Beyond left ≡ found_in list number
+  pub found_none : NextZero list start (length list) → Err left ≡ found_in list number
   unfolding found_in
-  found_none e =
+  found_none z =
+      let e : parts (drop start list) ≡ [] = no_part z (omega arith) in
       let k : length (parts list) ≡ length b.passed =
       ap length (b.are ∙ ap (λ (ps : List (List ℤ)). b.passed ++ ps) e ∙ append-nil b.passed) in
       let l : left ≡ number - length (parts list) = omega (arith, b.count) in
-      ap Beyond l
-      ∙ sym
-      (ap
-      (λ (t : Bool).
-      cond t (At (start_of list number) (start_of list (suc number))) (Beyond (number - length (parts list))))
-      (le-ltb number (length (parts list)) (omega (arith, b.count))))
-
-  pub found-end : length list ≤ start → Beyond left ≡ found_in list number
-  unfolding parts_from
-  found-end h = found_none (ap parts (drop_of_length-le list {i = start} h))
+      rw (le-ltb number (length (parts list)) (omega (arith, b.count))) (ap Err l)
 
   module _ {to : ℕ} (z : NextZero list start to) where
-    pub found-no-zero : length list ≤ to → Beyond left ≡ found_in list number
-    found-no-zero h = found_none (no_part z h)
-
     module _ (h : to < length list) where
       abbrev part : List ℤ
       part = take (suc (to - start)) (drop start list)
@@ -160,7 +119,7 @@ module _ {list : List ℤ} {number start left : ℕ} (b : Finding list number st
           (arith, b.place, z.above, length-take (suc (to - start)) (drop start list), length-drop start list)
 
       -- it is this one
-      pub found_here : left ≡ 0 → At start (to + 1) ≡ found_in list number
+      pub found_here : left ≡ 0 → Ok (stretch start (to + 1)) ≡ found_in list number
       unfolding found_in start_of
       found_here e =
           let n : length b.passed ≡ number = omega (arith, b.count) in
@@ -168,7 +127,8 @@ module _ {list : List ℤ} {number start left : ℕ} (b : Finding list number st
           length-append b.passed (part ∷ []) ∙ omega arith in
           let c : length (parts list) ≡ length (b.passed ++ (part ∷ [])) + length (parts (drop (to + 1) list)) =
           ap length longer ∙ length-append (b.passed ++ (part ∷ [])) (parts (drop (to + 1) list)) in
-          ap₂ At
+          rw (lt-ltb number (length (parts list)) (omega arith))
+          (ap₂ (λ (from end : ℕ). Ok (stretch from end))
           (b.place
           ∙ ap (λ (ps : List (List ℤ)). length (joined ps))
           (sym (ap (take number) b.are ∙ take_at b.passed (parts (drop start list)) number n)))
@@ -176,12 +136,7 @@ module _ {list : List ℤ} {number start left : ℕ} (b : Finding list number st
           ∙ ap (λ (ps : List (List ℤ)). length (joined ps))
           (sym
           (ap (take (suc number)) longer
-          ∙ take_at (b.passed ++ (part ∷ [])) (parts (drop (to + 1) list)) (suc number) m)))
-          ∙ sym
-          (ap
-          (λ (t : Bool).
-          cond t (At (start_of list number) (start_of list (suc number))) (Beyond (number - length (parts list))))
-          (lt-ltb number (length (parts list)) (omega arith)))
+          ∙ take_at (b.passed ++ (part ∷ [])) (parts (drop (to + 1) list)) (suc number) m))))
 
       -- it is a later one
       pub finding-more : (left ≡ 0 → ⊥) → Finding list number (to + 1) (left - 1)
@@ -235,25 +190,6 @@ cut_out (p ∷ ps) (suc n) rest h =
     ∙ drop-append-add p (joined ps ++ rest) (length (joined (take n ps))))
     ∙ cut_out ps n rest (le_of_suc-le-suc h)
 
-starts-rise : (ps : List (List ℤ)) (n : ℕ) (rest : List ℤ) →
-    (length (joined (take n ps)) ≤ length (joined (take (suc n) ps)))
-    × (length (joined (take (suc n) ps)) ≤ length (joined ps ++ rest))
-starts-rise [] zero rest = (omega arith, omega arith)
-starts-rise [] (suc n) rest = (omega arith, omega arith)
-starts-rise (p ∷ ps) zero rest = (
-  omega arith,
-  omega
-      (arith, ap length (append-nil p), length-append (p ++ joined ps) rest, length-append p (joined ps)),
-)
-starts-rise (p ∷ ps) (suc n) rest =
-    let w = starts-rise ps n rest in
-    let a = length-append p (joined (take (suc n) ps)) in
-    let b = length-append p (joined (take n ps)) in
-    let d = length-append (p ++ joined ps) rest in
-    let e = length-append p (joined ps) in
-    let f = length-append (joined ps) rest in
-    (omega (arith, w.0), omega (arith, w.1))
-
 -- part n of a list, by its place
 part_at : (zs : List ℤ) (n : ℕ) → n < length (parts zs) →
     take (start_of zs (suc n) - start_of zs n) (drop (start_of zs n) zs) ≡ get_or (parts zs) n []
@@ -267,24 +203,15 @@ part_at zs n h =
     w.1
     ∙ cut_out (parts zs) n w.0 h
 
-pub place-fits : (zs : List ℤ) (n : ℕ) → (start_of zs n ≤ start_of zs (suc n)) × (start_of zs (suc n) ≤ length zs)
-unfolding start_of
-place-fits zs n =
-    let w = parts_join zs [] in
-    let s = starts-rise (parts zs) n w.0 in
-    (s.0, subst (λ (k : ℕ). length (joined (take (suc n) (parts zs))) ≤ k) (sym (ap length w.1)) s.1)
-
 -- ---- both lists
 
--- a span lies in its list, and holds a part
-pub record Spanned (formula refutation : List ℤ) (number : ℕ) (span : Span) : Type 0 where
-  pub rises : span.start ≤ span.end
-  pub first_fits : span.second ≡ false → span.end ≤ length formula
-  pub second_fits : span.second ≡ true → span.end ≤ length refutation
-  pub holds : spanned formula refutation span ≡ get_or (parts formula ++ parts refutation) number []
+-- what a span holds is the numbered one of both lists' parts
+abbrev Holds : List ℤ → List ℤ → ℕ → Span → Type 0
+Holds formula refutation number span =
+    spanned formula refutation span ≡ get_or (parts formula ++ parts refutation) number []
 
 second-span : (formula refutation : List ℤ) (number n : ℕ) → number ≡ length (parts formula) + n →
-    Spanned formula refutation number (span_second (found_in refutation n) (length refutation))
+    Holds formula refutation number (span_second (found_in refutation n) (length refutation))
 unfolding found_in
 second-span formula refutation number n e = go (ltb n (length (parts refutation))) refl
   where
@@ -294,78 +221,46 @@ second-span formula refutation number n e = go (ltb n (length (parts refutation)
         ∙ get_or-append-add (parts formula) (parts refutation) n []
 
     go : (b : Bool) → ltb n (length (parts refutation)) ≡ b →
-        Spanned formula refutation number
+        Holds formula refutation number
         (span_second
-        (cond b (At (start_of refutation n) (start_of refutation (suc n))) (Beyond (n - length (parts refutation))))
+        (cond b (Ok (stretch (start_of refutation n) (start_of refutation (suc n))))
+        (Err (n - length (parts refutation))))
         (length refutation))
-    go true q =
-        record {
-          rises = (place-fits refutation n).0;
-          first_fits = λ f. both refl f;
-          second_fits = λ _. (place-fits refutation n).1;
-          holds = part_at refutation n (ltb-true n (length (parts refutation)) q) ∙ sym entry;
-        }
+    go true q = part_at refutation n (ltb-true n (length (parts refutation)) q) ∙ sym entry
     go false q =
-        record {
-          rises = omega arith;
-          first_fits = λ f. both refl f;
-          second_fits = λ _. omega arith;
-          holds =
-              ap (λ (k : ℕ). take k (drop (length refutation) refutation))
-              (let z : length refutation - length refutation ≡ 0 = omega arith in z)
-              ∙ sym
-              (entry
-              ∙ get_or-eq_default (parts refutation) [] {n = n} (ltb-false n (length (parts refutation)) q));
-        }
+        ap (λ (k : ℕ). take k (drop (length refutation) refutation))
+        (let z : length refutation - length refutation ≡ 0 = omega arith in z)
+        ∙ sym
+        (entry ∙ get_or-eq_default (parts refutation) [] {n = n} (ltb-false n (length (parts refutation)) q))
 
-pub span-is : (formula refutation : List ℤ) (number : ℕ) →
-    Spanned formula refutation number (span_of formula refutation number)
-unfolding span_of found_in
-span-is formula refutation number = go (ltb number (length (parts formula))) refl
+span-holds : (formula refutation : List ℤ) (number : ℕ) →
+    Holds formula refutation number (span_of formula refutation number)
+unfolding found_in
+span-holds formula refutation number = go (ltb number (length (parts formula))) refl
   where
     go : (b : Bool) → ltb number (length (parts formula)) ≡ b →
-        Spanned formula refutation number
+        Holds formula refutation number
         (span_first
-        (cond b (At (start_of formula number) (start_of formula (suc number)))
-        (Beyond (number - length (parts formula))))
+        (cond b (Ok (stretch (start_of formula number) (start_of formula (suc number))))
+        (Err (number - length (parts formula))))
         refutation)
     go true q =
-        record {
-          rises = (place-fits formula number).0;
-          first_fits = λ _. (place-fits formula number).1;
-          second_fits = λ f. both f refl;
-          holds =
-              part_at formula number (ltb-true number (length (parts formula)) q)
-              ∙ sym
-              (get_or-append (parts formula) (parts refutation) [] number
-              (ltb-true number (length (parts formula)) q));
-        }
+        part_at formula number (ltb-true number (length (parts formula)) q)
+        ∙ sym
+        (get_or-append (parts formula) (parts refutation) [] number (ltb-true number (length (parts formula)) q))
     go false q =
         let h = ltb-false number (length (parts formula)) q in
         let e : number ≡ length (parts formula) + (number - length (parts formula)) = omega arith in
         second-span formula refutation number (number - length (parts formula)) e
 
--- what a span names, as the promise says it
-module _ {formula refutation part : Bor (List ℤ)} {number : ℕ} {span : Span}
-    (s : Spanned formula.now refutation.now number span) (e : span ≡ span_of formula.now refutation.now number)
-  where
-    -- a part of the list that its span names is the numbered one
-    pub part_of : (second : Bool) → span.second ≡ second →
-        part.now ≡ take (span.end - span.start) (drop span.start (cond second refutation.now formula.now)) →
-        part.ref_ptr ≡ point_at (cond second refutation.ref_ptr formula.ref_ptr) span.start →
-        ClausePart formula refutation number part
-    part_of second t holds lies =
-        let q : part.now ≡ spanned formula.now refutation.now span = holds ∙ chosen second t in
-        record {
-          held = q ∙ ap (spanned formula.now refutation.now) e;
-          named = q ∙ s.holds;
-          lies = lies
-              ∙ ap₂ (λ (b : Bool) (at : ℕ). point_at (cond b refutation.ref_ptr formula.ref_ptr) at)
-              (sym t ∙ ap (λ (x : Span). x.second) e) (ap (λ (x : Span). x.start) e);
-        }
-      where
-        chosen : (b : Bool) → span.second ≡ b →
-            take (span.end - span.start) (drop span.start (cond b refutation.now formula.now))
-            ≡ spanned formula.now refutation.now span
-        chosen true t = rw t
-        chosen false t = rw t
+-- a part that is what its span names is what the promise says
+pub part_of : {formula refutation part : Bor (List ℤ)} {number : ℕ} {span : Span} →
+    span ≡ span_of formula.now refutation.now number → part.now ≡ spanned formula.now refutation.now span →
+    part.ref_ptr ≡ span_lies formula.ref_ptr refutation.ref_ptr span → ClausePart formula refutation number part
+part_of {formula} {refutation} {number = number} e holds lies =
+    let held = holds ∙ ap (spanned formula.now refutation.now) e in
+    record {
+      held = held;
+      named = held ∙ span-holds formula.now refutation.now number;
+      lies = lies ∙ ap (span_lies formula.ref_ptr refutation.ref_ptr) e;
+    }

@@ -1,7 +1,7 @@
 -- Each row of specs/Edges is a computation read as the order-free promise, as those of Examples are. Law: edges-hold.
 -- Assumes nothing.
-use mathlib.Core.Path.{◌≡◌, refl}
-use mathlib.Core.List.{map, Memᴰ}
+use Rattle.std.proofs.Common.{◌≡◌, refl, map}
+use mathlib.Core.List.{Memᴰ}
 use Rattle.clauses.specs.Clauses.{clauses_from}
 use Rattle.refute.specs.Examples.{Case}
 use Rattle.refute.specs.Edges.{formulas, refutations, lasts, steps, edges}

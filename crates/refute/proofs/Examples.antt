@@ -1,15 +1,11 @@
 -- Every check has an answer, and it is computed; so the worked examples are one computation over their rows, read as
 -- the order-free promise. Assumes nothing.
-use mathlib.Core.Path.{◌≡◌, refl, subst}
-use mathlib.Core.Bool.{Bool, ◌&&◌}
-use mathlib.Core.List.{List, map, Memᴰ}
-use Prim.Native.Nat.{ℕ, suc}
-use lib.Dec.{T, ltb, ltb→lt}
-use lib.IntN.{ℤ}
+use Rattle.std.proofs.Common.{◌≡◌, refl, subst, Bool, ◌&&◌, List, map, ℕ, suc, T, ltb, ltb→lt, ℤ, Ok, Err}
+use mathlib.Core.List.{Memᴰ}
 use Rattle.basics.specs.Lists.{all}
 use Rattle.basics.proofs.Truth.{and_left, and_right}
 use Rattle.basics.proofs.Lists.{all-at, map_each}
-use Rattle.refusal.specs.Rows.{checked, unless_refused}
+use Rattle.refusal.specs.Rows.{checked, unless_refused, Checked}
 use Rattle.refusal.proofs.Rows.{first_passes, rest-passes}
 use Rattle.clauses.specs.Clauses.{Literal, clauses_from, clauses_of}
 use Rattle.refute.specs.Propagation.{Follows}
@@ -17,30 +13,15 @@ use Rattle.refute.specs.Examples.{Case, cases, Following, followings}
 use Rattle.refute.specs.Passes.{is_true, is_free, assign, say, pass, refutes, assert, follows, verdict}
 use Rattle.refute.specs.Promise.{malformed, Checks}
 use Rattle.refute.specs.Reading.{answer_of}
-use Rattle.refute.specs.Rows.{
-  first_beyond,
-  ended,
-  formula_rows,
-  refutation_form,
-  first_empty,
-  last_row,
-  refutation_rows,
-  check_rows,
-}
-use Rattle.refusal.specs.declared.Checked.{Checked}
-use Rattle.refusal.specs.declared.Checked.TheVariants.{Passes, Refused}
+use Rattle.refute.specs.Rows.{first_beyond, ended, formula_rows, refutation_form, first_empty, last_row}
+use Rattle.refute.specs.Rows.{refutation_rows, check_rows}
 use Rattle.refute.proofs.Agree.{Small, follows_is}
-use Rattle.refute.proofs.Judging.{
-  formula-passes,
-  formula-within,
-  rows_pass,
-  judged-answer,
-}
+use Rattle.refute.proofs.Judging.{formula-passes, formula-within, rows_pass, judged-answer}
 
 -- the answer to a check
 abbrev pub answer_to : ℕ → List ℤ → List ℤ → ℕ → Checked
 answer_to variables formula refutation room =
-    unless_refused (checked (check_rows variables formula refutation room)) Refused
+    unless_refused (checked (check_rows variables formula refutation room)) Err
     (answer_of (verdict (suc variables) (clauses_of formula) (clauses_of refutation)))
 
 -- it meets the promise, whatever is checked
@@ -50,9 +31,9 @@ answer-exists variables formula refutation room = go (checked (check_rows variab
   where
     go : (rows : Checked) → checked (check_rows variables formula refutation room) ≡ rows →
         Checks variables formula refutation room
-        (unless_refused rows Refused (answer_of (verdict (suc variables) (clauses_of formula) (clauses_of refutation))))
-    go (Refused refusal) e = malformed e
-    go Passes e =
+        (unless_refused rows Err (answer_of (verdict (suc variables) (clauses_of formula) (clauses_of refutation))))
+    go (Err refusal) e = malformed e
+    go (Ok tt) e =
         judged-answer (suc variables) formula refutation e
         (formula-within
         (formula-passes variables formula

@@ -1,65 +1,28 @@
 -- The walk over a refutation's clauses, and what the rows and the verdict come to. At each clause the verdict on
 -- what is left, with the clauses passed among the stored ones, is the verdict on the whole. Assumes nothing.
-use mathlib.Core.Path.{◌≡◌, refl, sym, ap, subst, ◌∙◌}
-use mathlib.Core.Bool.{Bool, true, false, ◌&&◌, ◌||◌, not, cond}
+use Rattle.std.proofs.Common.{◌≡◌, refl, sym, ap, subst, ◌∙◌, Bool, true, false, ◌&&◌, ◌||◌, not, cond, List}
+use Rattle.std.proofs.Common.{[], ◌∷◌, ◌++◌, append-nil, append_assoc, ⊎_elim, ℕ, zero, suc, ◌+◌, ◌-◌, ◌<◌}
+use Rattle.std.proofs.Common.{◌≤◌, arith, add-zero, zero-add, T, leb, ltb, eqb, leb→le, le→leb, ℤ, pos}
+use Rattle.std.proofs.Common.{negsuc, length, take, drop, replicate, length-take, take-append-drop, take-add}
+use Rattle.std.proofs.Common.{ltb-false, le-ltb, Ok, Err}
 use mathlib.Core.List.Memᴰ
-use mathlib.Core.List.{
-  List,
-  [],
-  ◌∷◌,
-  ◌++◌,
-  Memᴰ,
-  append-nil,
-  append_assoc,
-}
-use mathlib.Core.Logic.{⊎_elim}
-use Prim.Native.Nat.{ℕ, zero, suc, ◌+◌, ◌-◌, ◌<◌, ◌≤◌}
-use native.Mathlib.Omega.{arith}
-use native.Mathlib.Nat.{add-zero, zero-add}
-use native.Mathlib.Decide.{dec_lt}
-use lib.Dec.{T, leb, ltb, eqb, leb→le, le→leb}
-use lib.IntN.{ℤ, pos, negsuc}
-use lib.ListN.{
-  length,
-  get_or,
-  take,
-  drop,
-  replicate,
-  length-replicate,
-  length-take,
-  take-append-drop,
-  drop_of_length-le,
-  get_or-eq_default,
-}
-use lib.Seq.{take-add, get_or-take, get_or-drop}
-use borrow.Author.Tests.{ltb-false, le-ltb}
+use mathlib.Core.List.{Memᴰ}
 use Rattle.basics.specs.Lists.{all}
 use Rattle.basics.proofs.Truth.{and_left, and_right, holds, and_both, is_true}
 use Rattle.refusal.specs.declared.Refusal.{Refusal}
 use Rattle.refusal.specs.declared.Refusal.TheVariants.{Step, Formula, Refutation, Room}
-use Rattle.refusal.specs.Rows.{Row, checked, room_row}
+use Rattle.refusal.specs.Rows.{Row, checked, room_row, Checked}
 use Rattle.refusal.proofs.Rows.{passed-by, refused-first, passed_first, first_passes, rest-passes}
 use Rattle.clauses.specs.Clauses.{Literal, clauses_from, clauses_of}
 use Rattle.refute.specs.Propagation.{Verdict, passes, stops, Judged}
 use Rattle.refute.specs.Passes.{follows, next, verdict}
 use Rattle.refute.specs.Promise.{Answers, malformed, passed, stopped, Checks, Tested}
-use Rattle.refute.specs.Reading.{literals_of, Within, Ready, NextZero, Clear, answer_of}
-use Rattle.refute.specs.Rows.{
-  magnitude,
-  first_beyond,
-  ended,
-  formula_rows,
-  most_variables,
-  refutation_form,
-  last_row,
-  refutation_rows,
-  check_rows,
-  WellFormed,
-}
-use Rattle.refusal.specs.declared.Checked.{Checked}
-use Rattle.refusal.specs.declared.Checked.TheVariants.{Passes, Refused}
+use Rattle.refute.specs.Reading.{literals_of, Within, Stored, NextZero, answer_of}
+use Rattle.refute.specs.Rows.{magnitude, first_beyond, ended, formula_rows, most_variables, refutation_form}
+use Rattle.refute.specs.Rows.{last_row, refutation_rows, check_rows, WellFormed}
 use Rattle.refute.proofs.Agree.{Small, verdict-is}
-use Rattle.refute.proofs.Walking.{ended_at, part-reads, next-clause}
+use Rattle.refute.proofs.Reading.{within-take}
+use Rattle.refute.proofs.Walking.{ended_at, part-reads, no-clause, next-clause}
 
 -- ---- from clause to clause
 
@@ -102,21 +65,17 @@ judging-starts room formula refutation =
 
 module _ {room : ℕ} {formula refutation : List ℤ} {at number : ℕ} (b : Judging room formula refutation at number) where
   -- no clause is left
-  pub judged-all : clauses_of (drop at refutation) ≡ [] →
-      Passes ≡ answer_of (verdict room (clauses_of formula) (clauses_of refutation))
+  pub judged-all : NextZero refutation at (length refutation) →
+      (Ok tt) ≡ answer_of (verdict room (clauses_of formula) (clauses_of refutation))
   unfolding verdict
-  judged-all e =
+  judged-all z =
       ap answer_of
       (sym
       (ap
       (λ (cs : List (List Literal)).
-      onward number (verdict room (clauses_of formula ++ clauses_of (take at refutation)) cs)) e)
+      onward number (verdict room (clauses_of formula ++ clauses_of (take at refutation)) cs))
+      (no-clause z (omega arith)))
       ∙ b.left)
-
-  pub judged-end : length refutation ≤ at →
-      Passes ≡ answer_of (verdict room (clauses_of formula) (clauses_of refutation))
-  unfolding clauses_from
-  judged-end h = judged-all (ap clauses_of (drop_of_length-le refutation {i = at} h))
 
   module _ {to : ℕ} (z : NextZero refutation at to) (h : to < length refutation) where
     abbrev part : List ℤ
@@ -153,9 +112,9 @@ module _ {room : ℕ} {formula refutation : List ℤ} {at number : ℕ} (b : Jud
     -- the clause does not follow
     pub judged-stop :
         false ≡ follows room (clauses_of formula ++ clauses_of (take at refutation)) (literals_of part) →
-        Refused (Step number) ≡ answer_of (verdict room (clauses_of formula) (clauses_of refutation))
+        Err (Step number) ≡ answer_of (verdict room (clauses_of formula) (clauses_of refutation))
     judged-stop e =
-        ap (λ (n : ℕ). Refused (Step n)) (sym (add-zero number)) ∙ ap answer_of (by-clause false (sym e))
+        ap (λ (n : ℕ). Err (Step n)) (sym (add-zero number)) ∙ ap answer_of (by-clause false (sym e))
 
     taken : take (to + 1) refutation ≡ take at refutation ++ take (suc (to - at)) (drop at refutation)
     taken =
@@ -205,45 +164,10 @@ module _ {room : ℕ} {formula refutation : List ℤ} {at number : ℕ} (b : Jud
 
 -- ---- numbers within the marks
 
-zero-within : (room : ℕ) (zs : List ℤ) → Within room zs → 0 < room
-zero-within room zs w =
-    subst (λ (z : ℤ). magnitude z < room) (get_or-eq_default zs (pos 0) {n = length zs} (omega arith))
-    (w (length zs))
-
-pub within-drop : (room n : ℕ) (zs : List ℤ) → Within room zs → Within room (drop n zs)
-within-drop room n zs w k =
-    subst (λ (z : ℤ). magnitude z < room) (sym (get_or-drop n zs k (pos 0))) (w (n + k))
-
-pub within-take : (room n : ℕ) (zs : List ℤ) → Within room zs → Within room (take n zs)
-within-take room n zs w k = go (dec_lt k n)
-  where
-    go : Dec (k < n) → magnitude (get_or (take n zs) k (pos 0)) < room
-    go (yes h) = subst (λ (z : ℤ). magnitude z < room) (sym (get_or-take n zs k (pos 0) h)) (w k)
-    go (no h) =
-        subst (λ (z : ℤ). magnitude z < room)
-        (sym (get_or-eq_default (take n zs) (pos 0) {n = k} (omega (arith, length-take n zs))))
-        (zero-within room zs w)
-
--- as many zeros as there are
-pub clear-long : {marks : List ℕ} (room : ℕ) → marks ≡ replicate room 0 → length marks ≡ room
-clear-long room e = ap length e ∙ length-replicate {A = ℕ} room 0
-
--- what the test of one clause asks for
-pub ready : {formula : List ℤ} {marks : List ℕ} (refutation : List ℤ) (from to room : ℕ) → marks ≡ replicate room 0 →
-    Within room formula → T (ended formula) → Within room refutation → T (ended (take from refutation)) →
-    Ready formula (take from refutation) (take (to - from) (drop from refutation)) marks
-ready {formula} {marks} refutation from to room z f g r s =
-    let e : room ≡ length marks = sym (clear-long room z) in
-    record {
-      clear = z ∙ ap (λ (n : ℕ). replicate n 0) e;
-      formula-fits = subst (λ (n : ℕ). Within n formula) e f;
-      formula-ends = g;
-      earlier-ends = s;
-      earlier-fits = subst (λ (n : ℕ). Within n (take from refutation)) e (within-take room from refutation r);
-      clause-fits =
-          subst (λ (n : ℕ). Within n (take (to - from) (drop from refutation))) e
-          (within-take room (to - from) (drop from refutation) (within-drop room from refutation r));
-    }
+-- the clauses passed are stored ones
+pub earlier_stored : (refutation : List ℤ) (at room : ℕ) → Within room refutation → T (ended (take at refutation)) →
+    Stored room (take at refutation)
+earlier_stored refutation at room w t = record { fits = within-take room at refutation w; ends = t }
 
 -- the variables of the clauses of such a list have marks
 small-from : (room : ℕ) (zs : List ℤ) (begun : List Literal) → Within room zs →
@@ -306,7 +230,7 @@ beyond-all variables (z ∷ zs) h =
         and_both (leb (magnitude z) variables) (all (λ (z : ℤ). leb (magnitude z) variables) zs)
         (le→leb (magnitude z) variables (ltb-false variables (magnitude z) e)) (rest (omega arith))
 
-pub formula-passes : (variables : ℕ) (formula : List ℤ) → checked (formula_rows variables formula) ≡ Passes →
+pub formula-passes : (variables : ℕ) (formula : List ℤ) → checked (formula_rows variables formula) ≡ Ok tt →
     WellFormed variables formula
 unfolding formula_rows
 formula-passes variables formula e =
@@ -338,7 +262,7 @@ beyond-length variables (z ∷ zs) t =
 
 -- and a well-formed formula passes row 11
 pub formula-accepted : (variables : ℕ) (formula : List ℤ) → WellFormed variables formula →
-    checked (formula_rows variables formula) ≡ Passes
+    checked (formula_rows variables formula) ≡ Ok tt
 unfolding formula_rows
 formula-accepted variables formula w =
     rw (
@@ -351,7 +275,12 @@ formula-accepted variables formula w =
 pub formula-within : {variables : ℕ} {formula : List ℤ} → WellFormed variables formula → Within (suc variables) formula
 formula-within {variables} {formula} w = all-within variables formula w.within
 
-refutation-passes : (variables : ℕ) (refutation : List ℤ) → checked (refutation_form variables refutation) ≡ Passes →
+pub formula-stored : {variables room : ℕ} {formula : List ℤ} → suc variables ≡ room → WellFormed variables formula →
+    Stored room formula
+formula-stored {formula = formula} k w =
+    record { fits = subst (λ (m : ℕ). Within m formula) k (formula-within w); ends = w.last }
+
+refutation-passes : (variables : ℕ) (refutation : List ℤ) → checked (refutation_form variables refutation) ≡ Ok tt →
     Within (suc variables) refutation
 unfolding refutation_form
 refutation-passes variables refutation e =
@@ -372,7 +301,7 @@ module _ (variables : ℕ) (refutation : List ℤ) (room : ℕ) where
   abbrev after_form : List Row
   after_form = last_row (clauses_of refutation) ∷ room_row (suc variables) room ∷ []
 
-  pub rows_pass : checked (refutation_rows variables refutation room) ≡ Passes → Fit variables refutation room
+  pub rows_pass : checked (refutation_rows variables refutation room) ≡ Ok tt → Fit variables refutation room
   rows_pass e =
       let rest = rest-passes (refutation_form variables refutation) after_form e in
       let roomy = rest-passes (last_row (clauses_of refutation) ∷ []) (room_row (suc variables) room ∷ []) rest in
@@ -384,34 +313,10 @@ module _ (variables : ℕ) (refutation : List ℤ) (room : ℕ) where
             ltb-false room (suc variables) (passed-by (ltb room (suc variables)) (Room (suc variables)) [] roomy).0;
       }
 
-  -- what the rows say one after the other
-  module _ {form : Checked} (f : form ≡ checked (refutation_form variables refutation)) where
-    pub form-refuses : {refusal : Refusal} → form ≡ Refused refusal →
-        Refused refusal ≡ checked (refutation_rows variables refutation room)
-    form-refuses e = sym (refused-first (refutation_form variables refutation) after_form (sym f ∙ e))
-
-    form-passes : form ≡ Passes → checked after_form ≡ checked (refutation_rows variables refutation room)
-    form-passes e = sym (passed_first (refutation_form variables refutation) after_form (sym f ∙ e))
-
-    pub last-refuses : {last : Checked} {refusal : Refusal} → last ≡ checked (last_row (clauses_of refutation) ∷ []) →
-        form ≡ Passes → last ≡ Refused refusal →
-        Refused refusal ≡ checked (refutation_rows variables refutation room)
-    last-refuses l e g =
-        sym (refused-first (last_row (clauses_of refutation) ∷ []) (room_row (suc variables) room ∷ []) (sym l ∙ g))
-        ∙ form-passes e
-
-    pub room-decides : {last roomy : Checked} → last ≡ checked (last_row (clauses_of refutation) ∷ []) →
-        form ≡ Passes → last ≡ Passes → roomy ≡ checked (room_row (suc variables) room ∷ []) →
-        roomy ≡ checked (refutation_rows variables refutation room)
-    room-decides l e g r =
-        r
-        ∙ sym (passed_first (last_row (clauses_of refutation) ∷ []) (room_row (suc variables) room ∷ []) (sym l ∙ g))
-        ∙ form-passes e
-
 -- ---- the promise
 
 pub answered : {rows : List Row} {stored refutation : List (List Literal)} (v : Verdict) (a : Checked) →
-    checked rows ≡ Passes → Judged stored refutation v → a ≡ answer_of v → Answers rows stored refutation a
+    checked rows ≡ Ok tt → Judged stored refutation v → a ≡ answer_of v → Answers rows stored refutation a
 answered {rows} {stored} {refutation} passes a p j e =
     subst (Answers rows stored refutation) (sym e) (passed p j)
 answered {rows} {stored} {refutation} (stops i) a p j e =
@@ -419,7 +324,7 @@ answered {rows} {stored} {refutation} (stops i) a p j e =
 
 -- the verdict that the clauses' walk came to, as the promise's
 pub judged-answer : {rows : List Row} {answer : Checked} (room : ℕ) (formula refutation : List ℤ) →
-    checked rows ≡ Passes →
+    checked rows ≡ Ok tt →
     Within room formula → Within room refutation →
     answer ≡ answer_of (verdict room (clauses_of formula) (clauses_of refutation)) →
     Answers rows (clauses_of formula) (clauses_of refutation) answer
@@ -435,26 +340,14 @@ take-zeros zero n = refl
 take-zeros (suc k) zero = refl
 take-zeros (suc k) (suc n) = ap (λ (t : List ℕ). 0 ∷ t) (take-zeros k n)
 
-part-clear : (k n : ℕ) (slice : List ℕ) → slice ≡ replicate n 0 → take k slice ≡ replicate (length (take k slice)) 0
+pub part-clear : (k n : ℕ) (slice : List ℕ) → slice ≡ replicate n 0 → take k slice ≡ replicate (length (take k slice)) 0
 part-clear k n slice e =
     subst (λ (t : List ℕ). take k t ≡ replicate (length (take k t)) 0) (sym e) (take-zeros k n)
 
--- the marks are the first V+1 of the slice, and a test finds them as it asks
-pub lent-clear : {variables : ℕ} {formula refutation : List ℤ} {n : ℕ} (slice : List ℕ) → slice ≡ replicate n 0 →
-    WellFormed variables formula → Fit variables refutation n →
-    Clear formula refutation (take (variables + 1) slice)
-lent-clear {variables} {formula} {refutation} {n} slice e w f =
-    let k : suc variables ≡ length (take (variables + 1) slice) = lent-long slice e f in
-    record {
-      clear = part-clear (variables + 1) n slice e;
-      formula-fits = subst (λ (m : ℕ). Within m formula) k (formula-within w);
-      formula-ends = w.last;
-      refutation-fits = subst (λ (m : ℕ). Within m refutation) k f.within;
-    }
-  where
-    lent-long : (slice : List ℕ) → slice ≡ replicate n 0 → Fit variables refutation n →
-        suc variables ≡ length (take (variables + 1) slice)
-    lent-long slice e f = omega (arith, length-take (variables + 1) slice, clear-long n e, f.roomy)
+-- the marks are the first V+1 of the slice
+pub marks-long : {variables : ℕ} {refutation : List ℤ} (slice : List ℕ) → Fit variables refutation (length slice) →
+    suc variables ≡ length (take (variables + 1) slice)
+marks-long {variables} slice f = omega (arith, length-take (variables + 1) slice, f.roomy)
 
 -- what came back, with the rest of the slice
 pub lent_back : (k n : ℕ) (slice back : List ℕ) → slice ≡ replicate n 0 →
@@ -463,15 +356,13 @@ lent_back k n slice back e b =
     ap (λ (t : List ℕ). t ++ drop k slice) (b ∙ sym (part-clear k n slice e)) ∙ take-append-drop k slice ∙ e
 
 -- the test's answer as the promise's
-pub tested-answer : {rows : List Row} {answer : Checked} (variables n : ℕ) (formula refutation : List ℤ)
-    (slice : List ℕ) →
-    slice ≡ replicate n 0 → WellFormed variables formula → Fit variables refutation n → checked rows ≡ Passes →
-    answer
-    ≡ answer_of (verdict (length (take (variables + 1) slice)) (clauses_of formula) (clauses_of refutation)) →
+pub tested-answer : {rows : List Row} {answer : Checked} {variables n room : ℕ} {formula refutation : List ℤ} →
+    suc variables ≡ room → WellFormed variables formula → Fit variables refutation n → checked rows ≡ Ok tt →
+    answer ≡ answer_of (verdict room (clauses_of formula) (clauses_of refutation)) →
     Answers rows (clauses_of formula) (clauses_of refutation) answer
-tested-answer variables n formula refutation slice e w f p a =
-    let c = lent-clear {n = n} slice e w f in
-    judged-answer (length (take (variables + 1) slice)) formula refutation p c.formula-fits c.refutation-fits a
+tested-answer {room = room} {formula} {refutation} k w f p a =
+    judged-answer room formula refutation p (subst (λ (m : ℕ). Within m formula) k (formula-within w))
+    (subst (λ (m : ℕ). Within m refutation) k f.within) a
 
 -- ---- row 11 before the others
 
@@ -482,18 +373,12 @@ answers-as e (malformed p) = malformed (sym e ∙ p)
 answers-as e (passed p j) = passed (sym e ∙ p) j
 answers-as e (stopped p j) = stopped (sym e ∙ p) j
 
-module _ {a : Checked} (v w : ℕ) (formula refutation : List ℤ) (room : ℕ) (e : w ≡ v)
-    (f : a ≡ checked (formula_rows w formula)) where
-  formula-says : checked (formula_rows v formula) ≡ a
-  formula-says = ap (λ (n : ℕ). checked (formula_rows n formula)) (sym e) ∙ sym f
+module _ (variables : ℕ) (formula refutation : List ℤ) (room : ℕ) where
+  pub formula-refuses : {refusal : Refusal} → checked (formula_rows variables formula) ≡ Err refusal →
+      checked (check_rows variables formula refutation room) ≡ Err refusal
+  formula-refuses e = refused-first (formula_rows variables formula) (refutation_rows variables refutation room) e
 
-  pub formula-refuses : {r : Refusal} → a ≡ Refused r → checked (check_rows v formula refutation room) ≡ Refused r
-  formula-refuses g = refused-first (formula_rows v formula) (refutation_rows v refutation room) (formula-says ∙ g)
-
-  pub formula-leaves : {answer : Checked} → a ≡ Passes → Tested w formula refutation room answer →
-      Checks v formula refutation room answer
-  formula-leaves {answer} g t =
-      answers-as
-      (ap (λ (n : ℕ). checked (refutation_rows n refutation room)) e
-      ∙ sym (passed_first (formula_rows v formula) (refutation_rows v refutation room) (formula-says ∙ g)))
-      t
+  pub formula-leaves : {answer : Checked} → checked (formula_rows variables formula) ≡ Ok tt →
+      Tested variables formula refutation room answer → Checks variables formula refutation room answer
+  formula-leaves e t =
+      answers-as (sym (passed_first (formula_rows variables formula) (refutation_rows variables refutation room) e)) t

@@ -1,14 +1,10 @@
 -- What marks say of literals, and what an assignment changes in them. Assumes nothing.
-use mathlib.Core.Path.{◌≡◌, refl, sym, ap, ap₂, subst, ◌∙◌}
-use mathlib.Core.Bool.{Bool, true, false, not, beq, cond}
-use mathlib.Core.List.{List, [], ◌∷◌}
-use mathlib.Core.Logic.{◌⊎◌, inl, inr, ◌≢◌, ⊎_elim}
-use Prim.Native.Nat.{ℕ, zero, suc, ◌+◌, ◌<◌, ◌≤◌}
-use native.Mathlib.Omega.{arith}
-use native.Mathlib.Nat.{le_of_suc-le-suc, not-suc-le-zero}
-use lib.Dec.{T, eqb, eqb→eq, eqb_refl}
-use lib.ListN.{length, get_or, set, length-set, replicate}
-use lib.Seq.{get_or-set_same}
+use Rattle.std.proofs.Common.{◌≡◌, refl, sym, ap, ap₂, subst, ◌∙◌, Bool, true, false, not, cond, List, []}
+use Rattle.std.proofs.Common.{◌∷◌, ◌⊎◌, inl, inr, ◌≢◌, ⊎_elim, ℕ, zero, suc, ◌+◌, ◌<◌, ◌≤◌, arith}
+use Rattle.std.proofs.Common.{le_of_suc-le-suc, not-suc-le-zero, T, eqb, eqb→eq, length, get_or, set}
+use Rattle.std.proofs.Common.{length-set, replicate, get_or-set_same}
+use mathlib.Core.Bool.{beq}
+use lib.Dec.{eqb_refl}
 use Rattle.basics.proofs.Truth.{decide, agree, agrees, and_both, and_left, and_right}
 use Rattle.clauses.specs.Clauses.{Literal, opposite}
 use Rattle.refute.specs.Passes.{same, wanted, is_true, is_free, assign}
@@ -59,7 +55,7 @@ module _ (marks : List ℕ) (l : Literal) where
   mark-free e = subst (λ (n : ℕ). T (eqb n 0)) (sym e) tt
 
 -- the two marks of a variable
-wanted-bound : (l : Literal) → (1 ≤ wanted l) × (wanted l ≤ 2) × (wanted (opposite l) + wanted l ≡ 3)
+pub wanted-bound : (l : Literal) → (1 ≤ wanted l) × (wanted l ≤ 2) × (wanted (opposite l) + wanted l ≡ 3)
 wanted-bound l = go l.0
   where
     go : (b : Bool) → (1 ≤ cond b 1 2) × (cond b 1 2 ≤ 2) × (cond (not b) 1 2 + cond b 1 2 ≡ 3)

@@ -1,117 +1,18 @@
 -- The loops of a test: within a clause, within a list, within a pass, and from pass to pass. Each invariant says
 -- that what is left comes to what was to be done at its start. Assumes nothing.
-use mathlib.Core.Path.{◌≡◌, refl, sym, ap, ap₂, subst, ◌∙◌}
-use mathlib.Core.Bool.{Bool, true, false, cond}
-use mathlib.Core.List.Memᴰ
-use mathlib.Core.List.{
-  List,
-  [],
-  ◌∷◌,
-  ◌++◌,
-  Memᴰ,
-  append-nil,
-}
-use mathlib.Core.Logic.{⊎_elim}
-use Prim.Native.Nat.{ℕ, zero, suc, ◌+◌, ◌-◌, ◌/◌, ◌%◌, ◌<◌, ◌≤◌}
-use native.Mathlib.Omega.{arith}
-use lib.Dec.{T}
-use lib.IntN.{ℤ, pos}
-use lib.ListN.{length, get_or, set, take, drop, replicate, drop_of_length-le}
-use Rattle.basics.specs.Lists.{any}
+use Rattle.std.proofs.Common.{◌≡◌, refl, sym, ap, ap₂, subst, ◌∙◌, Bool, true, false, cond, List, [], ◌∷◌}
+use Rattle.std.proofs.Common.{◌++◌, append-nil, ℕ, zero, suc, ◌+◌, ◌-◌, ◌/◌, ◌%◌, ◌<◌, ◌≤◌, arith, ℤ, length}
+use Rattle.std.proofs.Common.{get_or, set, take, drop, replicate, drop_of_length-le, Bor}
 use Rattle.clauses.specs.Clauses.{Literal, clauses_from, clauses_of}
-use Rattle.clauses.specs.Codes.{code_of, literal_code}
-use Rattle.refute.specs.Passes.{
-  is_true,
-  assign,
-  Said,
-  refuted,
-  quiet,
-  forces,
-  say,
-  Pass,
-  hit,
-  done,
-  pass,
-  refutes,
-  Asserted,
-  contradict,
-  marked,
-  assert,
-  follows,
-}
-use Rattle.refute.specs.Reading.{literal_of, literals_of, list_at, looked, outcome, Within, NextZero, Ready}
-use Rattle.refute.specs.Rows.{ended}
+use Rattle.refute.specs.Passes.{assign, Said, refuted, quiet, forces, say, Pass, hit, done, pass, refutes}
+use Rattle.refute.specs.Passes.{Asserted, contradict, marked, assert, follows}
+use Rattle.refute.specs.Reading.{outcome, Within, Stored}
 use Rattle.refute.specs.declared.Scan.{Scan}
+use Rattle.refute.specs.declared.Scan.TheVariants.{Refuted, Forces, Quiet}
 use Rattle.refute.proofs.Marks.{assign-length, nat_of, zeros, zeros-bound, zeros-assign}
-use Rattle.refute.proofs.Reading.{coded, next-number, clause-grows, clause-ends}
-use Rattle.refute.proofs.Scanning.{scan_of, code-parts, Lone, Spoken, spoken-whole, silent, heard}
-use Rattle.refute.proofs.Walking.{one-after, zero-there, rest-of-clause}
-
--- ---- within a clause
-
--- the literals read so far, none of them true, what they say, and what is left
-pub record Begun (list : List ℤ) (marks : List ℕ) (i : ℕ) (scan : Scan) (j : ℕ) : Type 0 where
-  pub above : i ≤ j
-  pub within : j < length list
-  pub read : List Literal
-  pub fits : (l : Literal) → Memᴰ l read → l.1 < length marks
-  pub untrue : any (is_true marks) read ≡ false
-  pub says : scan ≡ scan_of marks read
-  pub left : clauses_from read (drop j list) ≡ clauses_of (drop i list)
-
-pub begun-starts : (list : List ℤ) (marks : List ℕ) (i : ℕ) → i < length list →
-    Begun list marks i (record { free = 0; unit = 0 }) i
-unfolding scan_of
-begun-starts list marks i h =
-    record {
-      above = omega arith;
-      within = h;
-      read = [];
-      fits = λ l m. absurd (Memᴰ.not-nil m);
-      untrue = refl;
-      says = refl;
-      left = refl;
-    }
-
-module _ {list : List ℤ} {marks : List ℕ} {i : ℕ} {scan : Scan} {j : ℕ} (b : Begun list marks i scan j)
-    (n : code_of (get_or list j (pos 0)) ≡ 0 → ⊥) {after : Scan}
-    (q : after ≡ looked marks scan (code_of (get_or list j (pos 0)))) where
-  abbrev literal : Literal
-  literal = literal_of (get_or list j (pos 0))
-
-  looks : after ≡ looked marks (scan_of marks b.read) (literal_code literal)
-  looks =
-      q
-      ∙ ap₂ (λ (s : Scan) (y : ℕ). looked marks s y) b.says
-      (coded (get_or list j (pos 0)) (code_of (get_or list j (pos 0))) refl).is
-
-  grows : clauses_from (b.read ++ (literal ∷ [])) (drop (j + 1) list) ≡ clauses_of (drop i list)
-  grows =
-      sym
-      (ap (clauses_from b.read) (next-number list j b.within)
-      ∙ clause-grows b.read (get_or list j (pos 0)) (drop (j + 1) list) n)
-      ∙ b.left
-
-  -- one literal more, and there may be more to say
-  pub begun_more : T (ended list) → code_of (get_or list j (pos 0)) / 2 < length marks → (after.free ≡ 2 → ⊥) →
-      Begun list marks i after (j + 1)
-  begun_more t w m =
-      let h = heard marks b.read literal looks m b.untrue in
-      record {
-        above = omega (arith, b.above);
-        within = one-after list j t b.within n;
-        read = b.read ++ (literal ∷ []);
-        fits = λ l p.
-            ⊎_elim (λ o. b.fits l o)
-            (λ o.
-            subst (λ (y : Literal). y.1 < length marks) (sym (Memᴰ.eq_of_singleton o))
-            (subst (λ (v : ℕ). v < length marks)
-            (coded (get_or list j (pos 0)) (code_of (get_or list j (pos 0))) refl).variable w))
-            (Memᴰ.append_cases b.read p);
-        untrue = h.0;
-        says = h.1;
-        left = grows;
-      }
+use Rattle.refute.proofs.Reading.{within-take, within-drop, literals-within}
+use Rattle.refute.proofs.Scanning.{code-parts, Read, said-refuted, said-quiet, Forced, forced_by}
+use Rattle.refute.proofs.Walking.{clause_within, next-clause}
 
 -- ---- within a list
 
@@ -124,147 +25,98 @@ pub record Visiting (list : List ℤ) (before : List ℕ) (moved₀ : Bool) (mar
     pub left : (after : List (List Literal)) →
         pass marks moved (clauses_of (drop i list) ++ after) ≡ pass before moved₀ (clauses_of list ++ after)
 
-pub visiting-starts : (list : List ℤ) (marks : List ℕ) (moved : Bool) → Visiting list marks moved marks moved 0
-visiting-starts list marks moved =
-    record { upto = omega arith; long = refl; fewer = omega arith; left = λ after. refl }
+-- a clause was read
+module _ {list : List ℤ} {before : List ℕ} {moved₀ : Bool} {marks : List ℕ} {moved : Bool} {start end : ℕ} {scan : Scan}
+    (v : Visiting list before moved₀ marks moved start) (r : Read list marks start scan end) where
+  abbrev clause : List Literal
+  clause = clause_within list start end
 
--- a whole clause was read, from i to its 0 at j
-pub record ReadThrough (list : List ℤ) (before : List ℕ) (moved₀ : Bool) (marks : List ℕ) (moved : Bool) (i : ℕ)
-    (scan : Scan) (j : ℕ) : Type 0 where
-  pub above : i ≤ j
-  pub within : j < length list
-  pub long : length marks ≡ length before
-  pub fewer : zeros marks + nat_of moved ≤ zeros before + nat_of moved₀
-  pub read : List Literal
-  pub spoken : Spoken marks scan read
-  pub left : (after : List (List Literal)) →
-      pass marks moved (read ∷ (clauses_of (drop (j + 1) list) ++ after))
+  next : (s : Said) → say marks clause ≡ s → (after : List (List Literal)) →
+      elim s [
+        | refuted ↦ hit
+        | quiet ↦ pass marks moved (clauses_of (drop (end + 1) list) ++ after)
+        | forces l ↦ pass (assign marks l) true (clauses_of (drop (end + 1) list) ++ after)
+      ]
       ≡ pass before moved₀ (clauses_of list ++ after)
+  unfolding pass
+  next s e after =
+      sym
+      (ap (λ (cs : List (List Literal)). pass marks moved (cs ++ after)) (next-clause r.next r.within)
+      ∙ ap
+      (λ (t : Said).
+      elim t [
+        | refuted ↦ hit
+        | quiet ↦ pass marks moved (clauses_of (drop (end + 1) list) ++ after)
+        | forces l ↦ pass (assign marks l) true (clauses_of (drop (end + 1) list) ++ after)
+      ])
+      e)
+      ∙ v.left after
 
-module _ {list : List ℤ} {before : List ℕ} {moved₀ : Bool} {marks : List ℕ} {moved : Bool} {i : ℕ}
-    (v : Visiting list before moved₀ marks moved i) {scan : Scan} {j : ℕ} (b : Begun list marks i scan j) where
-  -- its literals were read one by one
-  pub closes : code_of (get_or list j (pos 0)) ≡ 0 → ReadThrough list before moved₀ marks moved i scan j
-  closes z =
+  -- it is false
+  pub visiting-hit : scan ≡ Refuted → (after : List (List Literal)) →
+      pass before moved₀ (clauses_of list ++ after) ≡ hit
+  visiting-hit e after = sym (next refuted (said-refuted (say marks clause) (sym e ∙ r.says)) after)
+
+  -- it says nothing
+  pub visiting-quiet : scan ≡ Quiet → Visiting list before moved₀ marks moved (end + 1)
+  visiting-quiet e =
       record {
-        above = b.above;
-        within = b.within;
+        upto = omega (arith, r.within);
         long = v.long;
         fewer = v.fewer;
-        read = b.read;
-        spoken =
-            subst (λ (s : Scan). Spoken marks s b.read) (sym b.says)
-            (spoken-whole marks b.read b.fits b.untrue);
-        left = λ after.
-            ap (λ (cs : List (List Literal)). pass marks moved (cs ++ after))
-            (sym
-            (ap (clauses_from b.read) (next-number list j b.within)
-            ∙ clause-ends b.read (get_or list j (pos 0)) (drop (j + 1) list) z)
-            ∙ b.left)
-            ∙ v.left after;
+        left = next quiet (said-quiet (say marks clause) (sym e ∙ r.says));
       }
 
-  -- it was left at a literal after which there was nothing to say
-  pub closes-early : {last : Scan} {to : ℕ} → T (ended list) → (code_of (get_or list j (pos 0)) ≡ 0 → ⊥) →
-      last ≡ looked marks scan (code_of (get_or list j (pos 0))) → last.free ≡ 2 → NextZero list (j + 1) to →
-      ReadThrough list before moved₀ marks moved i last to
-  closes-early {last} {to} t n q f z =
-      let w : to < length list = zero-there t (one-after list j t b.within n) z in
-      record {
-        above = omega (arith, b.above, z.above);
-        within = w;
-        long = v.long;
-        fewer = v.fewer;
-        read =
-            b.read ++ (literal_of (get_or list j (pos 0)) ∷ [])
-            ++ literals_of (take (to - (j + 1)) (drop (j + 1) list));
-        spoken =
-            record {
-              none = λ o. absurd (omega arith);
-              lone = λ o. absurd (omega arith);
-              more = λ _ _.
-                  silent marks b.read (literal_of (get_or list j (pos 0))) (looks b n q) f
-                  (literals_of (take (to - (j + 1)) (drop (j + 1) list)));
-            };
-        left = λ after.
-            ap (λ (cs : List (List Literal)). pass marks moved (cs ++ after))
-            (sym (rest-of-clause z w (b.read ++ (literal_of (get_or list j (pos 0)) ∷ []))) ∙ grows b n q)
-            ∙ v.left after;
-      }
+  module _ {code : ℕ} (w : Within (length marks) list) (e : scan ≡ Forces code) where
+    forced : Forced marks clause code
+    forced = forced_by marks clause code (sym e ∙ r.says)
 
--- it changes nothing
-pub visiting-quiet : {list : List ℤ} {before : List ℕ} {moved₀ : Bool} {marks : List ℕ} {moved : Bool} {i : ℕ}
-    {scan : Scan} {j : ℕ} (k : ReadThrough list before moved₀ marks moved i scan j) → say marks k.read ≡ quiet →
-    Visiting list before moved₀ marks moved (j + 1)
-unfolding pass
-visiting-quiet {list} {marks = marks} {moved} {j = j} k q =
-    record {
-      upto = omega (arith, k.within);
-      long = k.long;
-      fewer = k.fewer;
-      left = λ after.
-          sym
-          (ap
-          (λ (s : Said).
-          elim s [
-            | refuted ↦ hit
-            | quiet ↦ pass marks moved (clauses_of (drop (j + 1) list) ++ after)
-            | forces l ↦ pass (assign marks l) true (clauses_of (drop (j + 1) list) ++ after)
-          ])
-          q)
-          ∙ k.left after;
-    }
+    small : forced.literal.1 < length marks
+    small =
+        literals-within (length marks) (take (end - start) (drop start list))
+        (within-take (length marks) (end - start) (drop start list) (within-drop (length marks) start list w))
+        forced.literal forced.member
 
--- its one free literal becomes true
-pub visiting-unit : {list : List ℤ} {before : List ℕ} {moved₀ : Bool} {marks : List ℕ} {moved : Bool} {i : ℕ}
-    {scan : Scan} {j : ℕ} (k : ReadThrough list before moved₀ marks moved i scan j) → Lone marks scan k.read →
-    Visiting list before moved₀ (set marks (scan.unit / 2) (scan.unit % 2 + 1)) true (j + 1)
-unfolding pass assign
-visiting-unit {list} {before} {moved₀} {marks} {moved} {scan = scan} {j} k o =
-    let p = code-parts o.one in
-    let e : set marks (scan.unit / 2) (scan.unit % 2 + 1) ≡ assign marks o.one =
-    ap (λ (y : ℕ). set marks (y / 2) (y % 2 + 1)) o.code ∙ ap₂ (set marks) p.0 p.1 in
-    subst (λ (m : List ℕ). Visiting list before moved₀ m true (j + 1)) (sym e)
-    (record {
-      upto = omega (arith, k.within);
-      long = assign-length marks o.one ∙ k.long;
-      fewer =
-          omega (arith, zeros-assign marks o.one o.small o.free, k.fewer);
-      left = λ after.
-          sym
-          (ap
-          (λ (s : Said).
-          elim s [
-            | refuted ↦ hit
-            | quiet ↦ pass marks moved (clauses_of (drop (j + 1) list) ++ after)
-            | forces l ↦ pass (assign marks l) true (clauses_of (drop (j + 1) list) ++ after)
-          ])
-          o.forced)
-          ∙ k.left after;
-    })
+    -- the mark of its one free literal has a place
+    pub unit-within : code / 2 < length marks
+    unit-within =
+        subst (λ (v : ℕ). v < length marks)
+        (sym (ap (λ (y : ℕ). y / 2) forced.is ∙ (code-parts forced.literal).0)) small
 
--- the place of the mark
-pub unit-within : {marks : List ℕ} {scan : Scan} {c : List Literal} → Lone marks scan c → scan.unit / 2 < length marks
-unit-within {marks} o =
-    subst (λ (v : ℕ). v < length marks) (sym (ap (λ (y : ℕ). y / 2) o.code ∙ (code-parts o.one).0)) o.small
-
--- it is false
-pub visiting-hit : {list : List ℤ} {before : List ℕ} {moved₀ : Bool} {marks : List ℕ} {moved : Bool} {i : ℕ}
-    {scan : Scan} {j : ℕ} (k : ReadThrough list before moved₀ marks moved i scan j) → say marks k.read ≡ refuted →
-    (after : List (List Literal)) → pass before moved₀ (clauses_of list ++ after) ≡ hit
-unfolding pass
-visiting-hit {list} {marks = marks} {moved} {j = j} k q after =
-    sym (k.left after)
-    ∙ ap
-    (λ (s : Said).
-    elim s [
-      | refuted ↦ hit
-      | quiet ↦ pass marks moved (clauses_of (drop (j + 1) list) ++ after)
-      | forces l ↦ pass (assign marks l) true (clauses_of (drop (j + 1) list) ++ after)
-    ])
-    q
+    -- that literal becomes true
+    pub visiting-unit : {mark : ℕ} → mark ≡ code % 2 + 1 →
+        Visiting list before moved₀ (set marks (code / 2) mark) true (end + 1)
+    unfolding assign
+    visiting-unit {mark} m =
+        let o = forced in
+        let p = code-parts o.literal in
+        let q : set marks (code / 2) mark ≡ assign marks o.literal =
+        ap₂ (set marks) (ap (λ (y : ℕ). y / 2) o.is ∙ p.0) (m ∙ ap (λ (y : ℕ). y % 2 + 1) o.is ∙ p.1) in
+        subst (λ (after : List ℕ). Visiting list before moved₀ after true (end + 1)) (sym q)
+        (record {
+          upto = omega (arith, r.within);
+          long = assign-length marks o.literal ∙ v.long;
+          fewer = omega (arith, zeros-assign marks o.literal small o.free, v.fewer);
+          left = next (forces o.literal) o.says;
+        })
 
 -- ---- within a pass
+
+-- the two lists: the formula is number 0, the earlier clauses of the refutation number 1
+abbrev pub list_at : List ℤ → List ℤ → ℕ → List ℤ
+list_at formula earlier zero = formula
+list_at formula earlier (suc n) = earlier
+
+pub chosen : (formula earlier other : Bor (List ℤ)) (which : ℕ) → which < 2 →
+    (get_or (formula ∷ earlier ∷ []) which other).now ≡ list_at formula.now earlier.now which
+chosen formula earlier other zero h = refl
+chosen formula earlier other (suc zero) h = refl
+chosen formula earlier other (suc (suc n)) h = absurd (omega arith)
+
+pub stored_at : {formula earlier list : List ℤ} {room : ℕ} (which : ℕ) → list ≡ list_at formula earlier which →
+    Stored room formula → Stored room earlier → Stored room list
+stored_at zero e f g = rw e f
+stored_at (suc n) e f g = rw e g
 
 -- the stored clauses from list number `which` on
 abbrev pub stored_from : List ℤ → List ℤ → ℕ → List (List Literal)
@@ -285,10 +137,6 @@ pub record Passing (formula earlier : List ℤ) (before marks : List ℕ) (moved
   pub long : length marks ≡ length before
   pub fewer : zeros marks + nat_of moved ≤ zeros before
   pub left : pass marks moved (stored_from formula earlier which) ≡ pass before false (stored_from formula earlier 0)
-
-pub passing-starts : (formula earlier : List ℤ) (marks : List ℕ) → Passing formula earlier marks marks false 0
-passing-starts formula earlier marks =
-    record { upto = omega arith; long = refl; fewer = omega arith; left = refl }
 
 module _ {formula earlier list : List ℤ} {before marks₁ : List ℕ} {moved₁ : Bool} {which : ℕ}
     (p : Passing formula earlier before marks₁ moved₁ which) (w : which < 2)
@@ -382,14 +230,6 @@ running_more {formula} {earlier} {before} {marks₁} {marks} {moved} r p h e = g
               ∙ l;
         }
 
--- the marks left free are fewer
-pub fewer-free : {formula earlier : List ℤ} {before marks : List ℕ} {moved : Bool} {which : ℕ} →
-    Passing formula earlier before marks moved which → moved ≡ true → zeros marks < zeros before
-fewer-free {before = before} {marks} p e =
-    let w : zeros marks + 1 ≤ zeros before =
-    subst (λ (t : Bool). zeros marks + nat_of t ≤ zeros before) e p.fewer in
-    omega arith
-
 -- a pass that made none
 pub still-ends : {formula earlier : List ℤ} {before marks₁ marks : List ℕ} {moved : Bool} {which : ℕ} →
     Running formula earlier before marks₁ → Passing formula earlier marks₁ marks moved which → 2 ≤ which →
@@ -448,14 +288,3 @@ follows-passes marks formula earlier c after r answer z e f w =
     (follows_by marks (clauses_of formula ++ clauses_of earlier) c (marked after) z
     (e ∙ ap (λ (b : Bool). outcome b after) f)
     ∙ w)
-
--- the numbers of either list have marks, and either list ends in 0
-pub stored-fits : {formula earlier clause : List ℤ} {marks : List ℕ} (which : ℕ) → Ready formula earlier clause marks →
-    Within (length marks) (list_at formula earlier which)
-stored-fits zero r = r.formula-fits
-stored-fits (suc n) r = r.earlier-fits
-
-pub stored-ends : {formula earlier clause : List ℤ} {marks : List ℕ} (which : ℕ) → Ready formula earlier clause marks →
-    T (ended (list_at formula earlier which))
-stored-ends zero r = r.formula-ends
-stored-ends (suc n) r = r.earlier-ends

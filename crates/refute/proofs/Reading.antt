@@ -1,19 +1,17 @@
 -- A list read number by number: what a number's code says of its literal, and the assertions of a clause. Assumes
 -- nothing.
-use mathlib.Core.Path.{◌≡◌, refl, sym, ap, ap₂, ◌∙◌}
-use mathlib.Core.Bool.{Bool, cond}
-use mathlib.Core.List.{List, [], ◌∷◌, ◌++◌}
-use Prim.Native.Nat.{ℕ, zero, suc, ◌+◌, ◌-◌, ◌/◌, ◌%◌, ◌<◌, ◌≤◌}
-use native.Mathlib.Omega.{arith}
-use native.Mathlib.Numerals.{add-one}
-use lib.IntN.{ℤ, pos, negsuc}
-use lib.ListN.{length, get_or, set, drop, length-set, drop_of_length-le}
-use lib.Seq.{drop-cons}
-use borrow.Author.Tests.{eq-eqb, ne_eqb}
+use Rattle.std.proofs.Common.{◌≡◌, refl, sym, ap, ap₂, subst, ◌∙◌, Bool, cond, List, [], ◌∷◌, ◌++◌, ℕ, zero}
+use Rattle.std.proofs.Common.{suc, ◌+◌, ◌-◌, ◌/◌, ◌%◌, ◌<◌, ◌≤◌, arith, add-one, ℤ, pos, negsuc, length}
+use Rattle.std.proofs.Common.{get_or, set, take, drop, length-set, drop_of_length-le, length-take, drop-cons}
+use Rattle.std.proofs.Common.{get_or-take, get_or-drop, eq-eqb, ne_eqb}
+use mathlib.Core.List.{Memᴰ}
+use lib.ListN.{get_or-eq_default}
+use native.Mathlib.Decide.{dec_lt}
+use mathlib.Core.List.Memᴰ
 use Rattle.clauses.specs.Clauses.{Literal, opposite, clauses_from, clauses_of}
 use Rattle.clauses.specs.Codes.{code_of, literal_code}
 use Rattle.refute.specs.Passes.{wanted, is_true, assign, contradict, marked, assert}
-use Rattle.refute.specs.Reading.{literal_of, literals_of, list_at}
+use Rattle.refute.specs.Reading.{literal_of, literals_of, Within}
 use Rattle.refute.specs.Rows.{magnitude}
 
 -- ---- a number and its code
@@ -84,9 +82,6 @@ pub record Asserting (clause : List ℤ) (before marks : List ℕ) (i : ℕ) : T
   pub long : length marks ≡ length before
   pub left : assert marks (literals_of (drop i clause)) ≡ assert before (literals_of clause)
 
-pub asserting-starts : (clause : List ℤ) (marks : List ℕ) → Asserting clause marks marks 0
-asserting-starts clause marks = record { upto = omega arith; long = refl; left = refl }
-
 assert-next : (marks : List ℕ) (clause : List ℤ) (i : ℕ) → i < length clause →
     assert marks (literals_of (drop i clause))
     ≡ cond (is_true marks (literal_of (get_or clause i (pos 0)))) contradict
@@ -109,20 +104,21 @@ asserting-clash {clause} {before} {marks} {i} x b h e m =
     (assert (assign marks (opposite (literal_of (get_or clause i (pos 0))))) (literals_of (drop (i + 1) clause))))
     (eq-eqb _ _ t)
 
-pub asserting-more : {clause : List ℤ} {before marks : List ℕ} {i : ℕ} (x : ℕ) → Asserting clause before marks i →
-    i < length clause → x ≡ code_of (get_or clause i (pos 0)) → (get_or marks (x / 2) 0 ≡ x % 2 + 1 → ⊥) →
-    Asserting clause before (set marks (x / 2) (2 - x % 2)) (i + 1)
+pub asserting-more : {clause : List ℤ} {before marks : List ℕ} {i : ℕ} (x m : ℕ) → Asserting clause before marks i →
+    i < length clause → x ≡ code_of (get_or clause i (pos 0)) → m ≡ x % 2 + 1 → (get_or marks (x / 2) 0 ≡ m → ⊥) →
+    Asserting clause before (set marks (x / 2) (3 - m)) (i + 1)
 unfolding is_true assign
-asserting-more {clause} {before} {marks} {i} x b h e n =
+asserting-more {clause} {before} {marks} {i} x m b h e q n =
     let k = coded (get_or clause i (pos 0)) x e in
     let f : get_or marks (literal_of (get_or clause i (pos 0))).1 0 ≡ wanted (literal_of (get_or clause i (pos 0))) →
     ⊥ =
-    λ t. n (ap (λ (v : ℕ). get_or marks v 0) k.variable ∙ t ∙ sym k.mark) in
+    λ t. n (ap (λ (v : ℕ). get_or marks v 0) k.variable ∙ t ∙ sym (q ∙ k.mark)) in
+    let o : 3 - m ≡ wanted (opposite (literal_of (get_or clause i (pos 0)))) = omega (arith, k.other) in
     record {
       upto = omega arith;
-      long = length-set marks (x / 2) (2 - x % 2) ∙ b.long;
+      long = length-set marks (x / 2) (3 - m) ∙ b.long;
       left =
-          ap₂ (λ (v w : ℕ). assert (set marks v w) (literals_of (drop (i + 1) clause))) k.variable k.other
+          ap₂ (λ (v w : ℕ). assert (set marks v w) (literals_of (drop (i + 1) clause))) k.variable o
           ∙ sym
           (assert-next marks clause i h
           ∙ ap
@@ -139,13 +135,34 @@ unfolding assert
 asserting-ends {clause} {before} {marks} {i} b h =
     sym b.left ∙ ap (λ (zs : List ℤ). assert marks (literals_of zs)) (drop_of_length-le clause {i = i} h)
 
--- ---- the two lists
-
--- the second of two lists is that of every number but 0
-pub not_first : (formula earlier : List ℤ) (n : ℕ) → (n ≡ 0 → ⊥) → earlier ≡ list_at formula earlier n
-not_first formula earlier zero h = absurd (h refl)
-not_first formula earlier (suc n) h = refl
+-- ---- numbers within the marks
 
 -- a code within the marks
 pub code-within : (z : ℤ) (n x : ℕ) → x ≡ code_of z → magnitude z < n → x / 2 < n
 code-within z n x e h = omega (arith, (coded z x e).size)
+
+zero-within : (room : ℕ) (zs : List ℤ) → Within room zs → 0 < room
+zero-within room zs w =
+    subst (λ (z : ℤ). magnitude z < room) (get_or-eq_default zs (pos 0) {n = length zs} (omega arith))
+    (w (length zs))
+
+pub within-drop : (room n : ℕ) (zs : List ℤ) → Within room zs → Within room (drop n zs)
+within-drop room n zs w k =
+    subst (λ (z : ℤ). magnitude z < room) (sym (get_or-drop n zs k (pos 0))) (w (n + k))
+
+pub within-take : (room n : ℕ) (zs : List ℤ) → Within room zs → Within room (take n zs)
+within-take room n zs w k = go (dec_lt k n)
+  where
+    go : Dec (k < n) → magnitude (get_or (take n zs) k (pos 0)) < room
+    go (yes h) = subst (λ (z : ℤ). magnitude z < room) (sym (get_or-take n zs k (pos 0) h)) (w k)
+    go (no h) =
+        subst (λ (z : ℤ). magnitude z < room)
+        (sym (get_or-eq_default (take n zs) (pos 0) {n = k} (omega (arith, length-take n zs))))
+        (zero-within room zs w)
+
+-- the variables of the literals of such a list have marks
+pub literals-within : (room : ℕ) (zs : List ℤ) → Within room zs → (l : Literal) → Memᴰ l (literals_of zs) → l.1 < room
+literals-within room [] w l m = absurd (Memᴰ.not-nil m)
+literals-within room (z ∷ zs) w l (Memᴰ.head e) =
+    rw (e, ← (coded z (code_of z) refl).variable, (coded z (code_of z) refl).size) (w 0)
+literals-within room (z ∷ zs) w l (Memᴰ.tail m) = literals-within room zs (λ k. w (suc k)) l m

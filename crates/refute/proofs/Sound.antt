@@ -1,23 +1,17 @@
 -- What follows by unit propagation holds wherever the stored clauses hold: all that is forced is true there, so no
 -- stored clause can be false. Hence a refutation that passes leaves the formula no solution. Assumes nothing.
-use mathlib.Core.Path.{◌≡◌, sym, subst}
-use mathlib.Core.Bool.{Bool, true, not, beq}
+use Rattle.std.proofs.Common.{◌≡◌, sym, subst, Bool, true, not, List, [], ◌∷◌, ◌++◌, ◌⊎◌, inl, inr, ◌≢◌, ℕ, T}
+use Rattle.std.proofs.Common.{T_not}
+use mathlib.Core.Bool.{beq}
 use mathlib.Core.List.Memᴰ
-use mathlib.Core.List.{
-  List,
-  [],
-  ◌∷◌,
-  ◌++◌,
-  Memᴰ,
-}
-use mathlib.Core.Logic.{◌⊎◌, inl, inr, ◌≢◌}
-use Prim.Native.Nat.{ℕ}
-use lib.Dec.{T, T_not, not_T}
+use mathlib.Core.List.{Memᴰ}
+use lib.Dec.{not_T}
 use Rattle.basics.specs.Lists.{any}
 use Rattle.basics.proofs.Truth.{decide, and_both, by-table-of-two}
 use Rattle.basics.proofs.Lists.{all-at, any_at, any_of, all_join, map-mem}
 use Rattle.clauses.specs.Clauses.{Literal, opposite, literal_holds, satisfies}
-use Rattle.refute.specs.Propagation.{assertions, Forced, given, unit, Follows, clash, conflict, passes, Judged}
+use Rattle.refute.specs.Propagation.{assertions, Forced, given, unit, Follows, clash, conflict, passes}
+use Rattle.refute.specs.Propagation.{Judged}
 use Rattle.refute.proofs.Marks.{same_or_not}
 
 module _ (σ : ℕ → Bool) where

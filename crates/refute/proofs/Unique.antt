@@ -1,12 +1,7 @@
 -- One verdict on each refutation, one answer to each check and one part for each number: two that meet the promise are
 -- equal. None asks that a verdict can be computed. Assumes nothing.
-use mathlib.Core.Path.{◌≡◌, refl, sym, ap, ◌∙◌}
-use mathlib.Core.List.{List, [], ◌∷◌, ◌++◌}
-use Prim.Native.Nat.{ℕ, zero, suc}
-use lib.IntN.{ℤ}
-use denote.Ref.{Bor}
-use Rattle.refusal.specs.declared.Checked.{Checked}
-use Rattle.refusal.specs.Rows.{Row}
+use Rattle.std.proofs.Common.{◌≡◌, refl, sym, ap, ◌∙◌, List, [], ◌∷◌, ◌++◌, ℕ, zero, suc, ℤ, Bor}
+use Rattle.refusal.specs.Rows.{Checked, Row}
 use Rattle.refusal.proofs.Rows.{apart}
 use Rattle.clauses.specs.Clauses.{Literal}
 use Rattle.refute.specs.Parts.{ClausePart}

@@ -1,83 +1,43 @@
 -- Laws of the walks over a list of numbers: the first that is beyond the variables, the first 0, and from clause to
 -- clause. Assumes nothing.
-use mathlib.Core.Path.{◌≡◌, refl, sym, ap, subst, ◌∙◌}
-use mathlib.Core.Bool.{Bool, true, cond}
-use mathlib.Core.List.{List, [], ◌∷◌, ◌++◌, append-nil, append_assoc}
-use Prim.Native.Nat.{ℕ, zero, suc, ◌+◌, ◌-◌, ◌/◌, ◌<◌, ◌≤◌}
-use native.Mathlib.Omega.{arith}
-use native.Mathlib.Nat.{le_of_suc-le-suc, not-suc-le-zero, zero-add}
+use Rattle.std.proofs.Common.{◌≡◌, refl, sym, ap, subst, ◌∙◌, Bool, true, false, not, cond, List, [], ◌∷◌}
+use Rattle.std.proofs.Common.{◌++◌, append-nil, append_assoc, ℕ, zero, suc, ◌+◌, ◌-◌, ◌/◌, ◌<◌, ◌≤◌, arith}
+use Rattle.std.proofs.Common.{le_of_suc-le-suc, not-suc-le-zero, T, ltb, eqb, eqb→eq, ℤ, pos, length, get_or}
+use Rattle.std.proofs.Common.{take, drop, take-append-drop, length-drop, get_or-take, get_or-drop, drop-drop}
+use Rattle.std.proofs.Common.{length-take-le, take-add, eq-eqb, ne_eqb, Ok, Err}
 use native.Mathlib.Decide.{dec_lt}
-use lib.Dec.{T, ltb, eqb, eqb→eq}
-use lib.IntN.{ℤ, pos}
-use lib.ListN.{length, get_or, take, drop, take-append-drop, drop_of_length-le, length-drop}
-use lib.Seq.{get_or-take, get_or-drop, drop-drop, length-take-le}
-use borrow.Author.Tests.{lt-ltb, le-ltb, eq-eqb, ne_eqb}
+use Rattle.std.proofs.lemmas.List.{map-append}
+use Rattle.std.specs.List.{position_or_len}
 use Rattle.clauses.specs.Clauses.{Literal, clauses_from, clauses_of}
 use Rattle.clauses.specs.Codes.{code_of}
 use Rattle.refute.specs.Reading.{literal_of, literals_of, NextZero}
 use Rattle.refute.specs.Rows.{magnitude, first_beyond, ended, first_empty, last_row}
-use Rattle.refusal.specs.declared.Checked.TheVariants.{Passes, Refused}
 use Rattle.refusal.specs.declared.Refusal.TheVariants.{Last}
 use Rattle.refusal.specs.Rows.{checked}
 use Rattle.basics.proofs.Truth.{holds}
-use Rattle.refute.proofs.Reading.{
-  coded,
-  variable-size,
-  variable-none,
-  next-number,
-  clause-grows,
-  clause-ends,
-}
+use Rattle.refute.proofs.Reading.{coded, variable-size, variable-none, next-number, clause-grows, clause-ends}
 
 -- ---- the first number beyond
 
--- none before i is beyond
-pub record Beyond (variables : ℕ) (list : List ℤ) (i : ℕ) : Type 0 where
-  pub upto : i ≤ length list
-  pub left : i + first_beyond variables (drop i list) ≡ first_beyond variables list
-
-pub beyond-starts : (variables : ℕ) (list : List ℤ) → Beyond variables list 0
-beyond-starts variables list = record { upto = omega arith; left = zero-add (first_beyond variables list) }
-
-beyond-next : (variables : ℕ) (list : List ℤ) (i : ℕ) → i < length list →
-    first_beyond variables (drop i list)
-    ≡ cond (ltb variables (magnitude (get_or list i (pos 0)))) 0 (suc (first_beyond variables (drop (i + 1) list)))
+pub first_place : (variables : ℕ) (zs : List ℤ) →
+    first_beyond variables zs ≡ position_or_len (λ (z : ℤ). ltb variables (code_of z / 2)) zs
 unfolding first_beyond
-beyond-next variables list i h = ap (first_beyond variables) (next-number list i h)
-
-module _ {variables : ℕ} {list : List ℤ} {i : ℕ} (v : ℕ) (b : Beyond variables list i) (h : i < length list)
-    (e : v ≡ code_of (get_or list i (pos 0)) / 2) where
-  pub beyond-found : variables < v → i ≡ first_beyond variables list
-  beyond-found l =
-      let k : variables < magnitude (get_or list i (pos 0)) =
-      subst (λ (n : ℕ). variables < n) (variable-size (get_or list i (pos 0)) v e) l in
-      let f : first_beyond variables (drop i list) ≡ 0 =
-      beyond-next variables list i h
-      ∙ ap (λ (t : Bool). cond t 0 (suc (first_beyond variables (drop (i + 1) list)))) (lt-ltb _ _ k) in
-      omega (arith, b.left)
-
-  pub beyond-more : v ≤ variables → Beyond variables list (i + 1)
-  beyond-more l =
-      let k : magnitude (get_or list i (pos 0)) ≤ variables =
-      subst (λ (n : ℕ). n ≤ variables) (variable-size (get_or list i (pos 0)) v e) l in
-      let f : first_beyond variables (drop i list) ≡ suc (first_beyond variables (drop (i + 1) list)) =
-      beyond-next variables list i h
-      ∙ ap (λ (t : Bool). cond t 0 (suc (first_beyond variables (drop (i + 1) list)))) (le-ltb _ _ k) in
-      record { upto = omega arith; left = omega (arith, b.left) }
-
-pub beyond-none : {variables : ℕ} {list : List ℤ} {i : ℕ} → Beyond variables list i → length list ≤ i →
-    i ≡ first_beyond variables list
-unfolding first_beyond
-beyond-none {variables} {list} {i} b h =
-    let f : first_beyond variables (drop i list) ≡ 0 = ap (first_beyond variables) (drop_of_length-le list {i = i} h) in
-    omega (arith, b.left)
+first_place variables [] = refl
+first_place variables (z ∷ zs) =
+    rw (variable-size z (code_of z / 2) refl, first_place variables zs) (go (ltb variables (magnitude z)))
+  where
+    go : (b : Bool) →
+        cond b 0 (suc (position_or_len (λ (z : ℤ). ltb variables (code_of z / 2)) zs))
+        ≡ cond (not b) (1 + position_or_len (λ (z : ℤ). ltb variables (code_of z / 2)) zs) 0
+    go true = refl
+    go false = omega arith
 
 -- ---- the last number
 
-pub ended-empty : (list : List ℤ) → length list ≡ 0 → true ≡ ended list
+pub ended-empty : (list : List ℤ) → T (eqb (length list) 0) → true ≡ ended list
 unfolding ended
-ended-empty [] e = refl
-ended-empty (z ∷ zs) e = absurd (omega arith)
+ended-empty [] t = refl
+ended-empty (z ∷ zs) t = let e : length (z ∷ zs) ≡ 0 = eqb→eq _ _ t in absurd (omega arith)
 
 pub ended_by : (list : List ℤ) (v : ℕ) → v ≡ code_of (get_or list (length list - 1) (pos 0)) / 2 → eqb v 0 ≡ ended list
 unfolding ended
@@ -149,27 +109,20 @@ module _ {list : List ℤ} {from i : ℕ} (x : ℕ) (b : Zeroless list from i) (
           let p : k ≡ i = omega arith in
           n (e ∙ subst (λ (m : ℕ). code_of (get_or list m (pos 0)) ≡ 0) p z)
 
-pub zero-none : {list : List ℤ} {from i : ℕ} → Zeroless list from i → length list ≤ i → NextZero list from i
-zero-none b h =
+-- the first 0 behind numbers that are not 0
+pub zero-behind : {list : List ℤ} {from mid to : ℕ} → Zeroless list from mid → NextZero list mid to →
+    NextZero list from to
+zero-behind {list} {from} {mid} {to} b z =
     record {
-      above = b.above;
-      upto = b.upto;
-      none_before = b.none_before;
-      there = λ l. absurd (omega arith);
+      above = omega (arith, b.above, z.above);
+      upto = z.upto;
+      none_before = λ k a l. go k a l (dec_lt k mid);
+      there = z.there;
     }
-
--- a list that ends in 0 has one from every place of it on
-pub zero-there : {list : List ℤ} {from to : ℕ} → T (ended list) → from < length list → NextZero list from to →
-    to < length list
-unfolding ended
-zero-there {list} {from} {to} t h z = go (dec_lt to (length list))
   where
-    go : Dec (to < length list) → to < length list
-    go (yes l) = l
-    go (no l) =
-        absurd
-        (z.none_before (length list - 1) (omega arith) (omega arith)
-        (zero-of-size (get_or list (length list - 1) (pos 0)) (eqb→eq _ _ t)))
+    go : (k : ℕ) → from ≤ k → k < to → Dec (k < mid) → code_of (get_or list k (pos 0)) ≡ 0 → ⊥
+    go k a l (yes q) = b.none_before k a q
+    go k a l (no q) = z.none_before k (omega arith) l
 
 -- ---- from clause to clause
 
@@ -240,6 +193,38 @@ module _ {list : List ℤ} {from to : ℕ} (z : NextZero list from to) where
         ≡ literals_of (take (to - from) (drop from list)) ∷ clauses_of (drop (to + 1) list)
     next-clause = rest-of-clause []
 
+-- ---- a clause read number by number
+
+-- the literals from a place up to another
+abbrev pub clause_within : List ℤ → ℕ → ℕ → List Literal
+clause_within list from to = literals_of (take (to - from) (drop from list))
+
+-- a clause goes on behind a number of it
+pub split : (list : List ℤ) (from at to : ℕ) → from ≤ at → at < length list → at < to →
+    clause_within list from to
+    ≡ clause_within list from at ++ (literal_of (get_or list at (pos 0)) ∷ clause_within list (at + 1) to)
+split list from at to a h b =
+    ap literals_of
+    (ap (λ (n : ℕ). take n (drop from list)) (let e : to - from ≡ (at - from) + suc (to - (at + 1)) = omega arith in e)
+    ∙ take-add (at - from) (suc (to - (at + 1))) (drop from list)
+    ∙ ap (λ (zs : List ℤ). take (at - from) (drop from list) ++ take (suc (to - (at + 1))) zs)
+    (drop-drop (at - from) from list
+    ∙ ap (λ (n : ℕ). drop n list) (let e : from + (at - from) ≡ at = omega arith in e)
+    ∙ next-number list at h))
+    ∙ map-append literal_of (take (at - from) (drop from list))
+    (get_or list at (pos 0) ∷ take (to - (at + 1)) (drop (at + 1) list))
+
+-- one number more
+pub grown : (list : List ℤ) (from at : ℕ) → from ≤ at → at < length list →
+    clause_within list from (at + 1) ≡ clause_within list from at ++ (literal_of (get_or list at (pos 0)) ∷ [])
+grown list from at a h =
+    split list from at (at + 1) a h (omega arith)
+    ∙ ap
+    (λ (n : ℕ).
+    clause_within list from at
+    ++ (literal_of (get_or list at (pos 0)) ∷ literals_of (take n (drop (at + 1) list))))
+    (let e : at + 1 - (at + 1) ≡ 0 = omega arith in e)
+
 -- ---- row 13
 
 -- the first `number` clauses, up to the place, are not empty
@@ -249,33 +234,21 @@ pub record Counting (list : List ℤ) (at number : ℕ) : Type 0 where
   pub empty : first_empty (clauses_of list) ≡ number + first_empty (clauses_of (drop at list))
   pub count : length (clauses_of list) ≡ number + length (clauses_of (drop at list))
 
-pub counting-starts : (list : List ℤ) → Counting list 0 0
-counting-starts list =
-    record {
-      upto = omega arith;
-      few = omega arith;
-      empty = sym (zero-add (first_empty (clauses_of list)));
-      count = sym (zero-add (length (clauses_of list)));
-    }
-
 last-by : (list : List ℤ) (number : ℕ) → first_empty (clauses_of list) ≡ number →
-    (suc number ≡ length (clauses_of list) → ⊥) → Refused (Last number) ≡ checked (last_row (clauses_of list) ∷ [])
+    (suc number ≡ length (clauses_of list) → ⊥) → Err (Last number) ≡ checked (last_row (clauses_of list) ∷ [])
 unfolding last_row
 last-by list number e n =
     rw (e, ne_eqb (suc number) (length (clauses_of list)) n)
 
 module _ {list : List ℤ} {at number : ℕ} (b : Counting list at number) where
   -- no clause is left: none was empty
-  pub none-empty : clauses_of (drop at list) ≡ [] → Refused (Last number) ≡ checked (last_row (clauses_of list) ∷ [])
+  pub none-empty : NextZero list at (length list) → Err (Last number) ≡ checked (last_row (clauses_of list) ∷ [])
   unfolding first_empty
-  none-empty e =
+  none-empty z =
+      let e : clauses_of (drop at list) ≡ [] = no-clause z (omega arith) in
       let f : first_empty (clauses_of (drop at list)) ≡ 0 = ap first_empty e in
       let g : length (clauses_of (drop at list)) ≡ 0 = ap length e in
       last-by list number (omega (arith, b.empty)) (λ q. omega (arith, b.count))
-
-  pub none_left : length list ≤ at → Refused (Last number) ≡ checked (last_row (clauses_of list) ∷ [])
-  unfolding clauses_from
-  none_left h = none-empty (ap clauses_of (drop_of_length-le list {i = at} h))
 
   module _ {to : ℕ} (z : NextZero list at to) (h : to < length list) where
     empty-here : to ≡ at → clauses_of (drop at list) ≡ [] ∷ clauses_of (drop (to + 1) list)
@@ -295,16 +268,16 @@ module _ {list : List ℤ} {at number : ℕ} (b : Counting list at number) where
         ap length (empty-here e) in omega (arith, b.count)
 
     -- the empty clause is the last
-    pub is_last : {end : ℕ} → to ≡ at → NextZero list (to + 1) end → length list ≤ end →
-        Passes ≡ checked (last_row (clauses_of list) ∷ [])
+    pub is_last : to ≡ at → NextZero list (to + 1) (length list) →
+        (Ok tt) ≡ checked (last_row (clauses_of list) ∷ [])
     unfolding last_row
-    is_last e y l =
-        let g : length (clauses_of (drop (to + 1) list)) ≡ 0 = ap length (no-clause y l) in
+    is_last e y =
+        let g : length (clauses_of (drop (to + 1) list)) ≡ 0 = ap length (no-clause y (omega arith)) in
         rw (first-here e, eq-eqb (suc number) (length (clauses_of list)) (omega (arith, count-here e)))
 
     -- the empty clause is not the last
     pub not_last : {end : ℕ} → to ≡ at → NextZero list (to + 1) end → end < length list →
-        Refused (Last number) ≡ checked (last_row (clauses_of list) ∷ [])
+        Err (Last number) ≡ checked (last_row (clauses_of list) ∷ [])
     not_last {end} e y l =
         let g : length (clauses_of (drop (to + 1) list)) ≡ suc (length (clauses_of (drop (end + 1) list))) =
         ap length (next-clause y l) in

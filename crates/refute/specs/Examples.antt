@@ -2,8 +2,8 @@
 -- statement over these rows. Interface: all of it.
 use Rattle.std.specs.Prelude.{List, [], ◌∷◌, ℕ, ℤ, pos, negsuc}
 use Rattle.refusal.specs.declared.Refusal.TheVariants.{Last, Step}
-use Rattle.refusal.specs.declared.Checked.{Checked}
-use Rattle.refusal.specs.declared.Checked.TheVariants.{Passes, Refused}
+use Rattle.std.specs.Prelude.{Ok, Err}
+use Rattle.refusal.specs.Rows.{Checked}
 
 -- one check of a refutation
 pub record Case : Type 0 where
@@ -21,20 +21,20 @@ four_clauses =
 -- against it the refutation 0 is STEP 0, the refutation 1 0 0 passes, and 0 0 is LAST 0
 unfoldable pub cases : List Case
 cases =
-    record { variables = 2; formula = four_clauses; refutation = pos 0 ∷ []; room = 3; answer = Refused (Step 0) }
+    record { variables = 2; formula = four_clauses; refutation = pos 0 ∷ []; room = 3; answer = Err (Step 0) }
     ∷ record {
       variables = 2;
       formula = four_clauses;
       refutation = pos 1 ∷ pos 0 ∷ pos 0 ∷ [];
       room = 3;
-      answer = Passes;
+      answer = Ok tt;
     }
     ∷ record {
       variables = 2;
       formula = four_clauses;
       refutation = pos 0 ∷ pos 0 ∷ [];
       room = 3;
-      answer = Refused (Last 0);
+      answer = Err (Last 0);
     }
     ∷ []
 

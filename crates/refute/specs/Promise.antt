@@ -7,16 +7,16 @@ use Rattle.refusal.specs.Rows.{Row, checked}
 use Rattle.clauses.specs.Clauses.{Literal, clauses_of}
 use Rattle.refute.specs.Propagation.{Judged, passes, stops}
 use Rattle.refute.specs.Rows.{check_rows, refutation_rows}
-use Rattle.refusal.specs.declared.Checked.{Checked}
-use Rattle.refusal.specs.declared.Checked.TheVariants.{Passes, Refused}
+use Rattle.std.specs.Prelude.{Ok, Err}
+use Rattle.refusal.specs.Rows.{Checked}
 
 -- The answer where `rows` stand before 14: their refusal; or else the verdict, where 14 STEP names the first clause
 -- that doesn't follow.
 pub data Answers (rows : List Row) (stored refutation : List (List Literal)) : Checked → Type 0 where
-  malformed : {refusal : Refusal} → checked rows ≡ Refused refusal → Answers rows stored refutation (Refused refusal)
-  passed : checked rows ≡ Passes → Judged stored refutation passes → Answers rows stored refutation Passes
-  stopped : {i : ℕ} → checked rows ≡ Passes → Judged stored refutation (stops i) →
-      Answers rows stored refutation (Refused (Step i))
+  malformed : {refusal : Refusal} → checked rows ≡ Err refusal → Answers rows stored refutation (Err refusal)
+  passed : checked rows ≡ Ok tt → Judged stored refutation passes → Answers rows stored refutation (Ok tt)
+  stopped : {i : ℕ} → checked rows ≡ Ok tt → Judged stored refutation (stops i) →
+      Answers rows stored refutation (Err (Step i))
 
 -- the answer to a check (rule C3)
 abbrev pub Checks : ℕ → List ℤ → List ℤ → ℕ → Checked → Type 0

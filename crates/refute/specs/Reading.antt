@@ -1,40 +1,16 @@
--- What the code's small functions make of numbers and marks: the literal of a number, the two lists read as one, and
--- what a clause's literals say so far. It serves the contracts inside this crate; no promise to a caller speaks of it.
-use Rattle.std.specs.Prelude.{
-  Bool,
-  true,
-  false,
-  cond,
-  List,
-  ◌++◌,
-  map,
-  ℕ,
-  zero,
-  suc,
-  ◌+◌,
-  ◌/◌,
-  ◌%◌,
-  ◌≤◌,
-  ◌<◌,
-  T,
-  eqb,
-  ℤ,
-  pos,
-  negsuc,
-  length,
-  get_or,
-  replicate,
-  ◌≡◌,
-}
+-- What the code's small functions make of numbers and marks: the literal of a number, and what a clause's literals
+-- say so far. It serves the contracts inside this crate; no promise to a caller speaks of it.
+use Rattle.std.specs.Prelude.{◌≡◌, Bool, true, false, cond, List, ◌++◌, map, ℕ, zero, suc, ◌+◌, ◌/◌, ◌%◌}
+use Rattle.std.specs.Prelude.{◌≤◌, ◌<◌, T, eqb, ℤ, pos, negsuc, length, get_or, Ok, Err}
 use Rattle.clauses.specs.Clauses.{Literal, clauses_of}
 use Rattle.clauses.specs.Codes.{code_of}
+use Rattle.refusal.specs.Rows.{Checked}
+use Rattle.refusal.specs.declared.Refusal.TheVariants.{Step}
 use Rattle.refute.specs.Passes.{Asserted, contradict, marked, follows, verdict}
 use Rattle.refute.specs.Propagation.{Verdict, passes, stops}
 use Rattle.refute.specs.Rows.{magnitude, ended}
 use Rattle.refute.specs.declared.Scan.{Scan}
-use Rattle.refusal.specs.declared.Checked.{Checked}
-use Rattle.refusal.specs.declared.Checked.TheVariants.{Passes, Refused}
-use Rattle.refusal.specs.declared.Refusal.TheVariants.{Step}
+use Rattle.refute.specs.declared.Scan.TheVariants.{Refuted, Forces, Quiet}
 
 -- the literal of a number that is not 0
 abbrev pub literal_of : ℤ → Literal
@@ -49,39 +25,30 @@ literals_of zs = map literal_of zs
 abbrev pub Within : ℕ → List ℤ → Type 0
 Within room zs = (k : ℕ) → magnitude (get_or zs k (pos 0)) < room
 
--- the two lists of stored clauses: the formula is number 0, the earlier clauses of the refutation number 1
-abbrev pub list_at : List ℤ → List ℤ → ℕ → List ℤ
-list_at formula earlier zero = formula
-list_at formula earlier (suc n) = earlier
+-- a list of stored clauses: each number has a mark, and it ends in 0
+pub record Stored (room : ℕ) (list : List ℤ) : Type 0 where
+  pub fits : Within room list
+  pub ends : T (ended list)
 
--- a free literal more: the first is kept, the same again changes nothing, another makes two
-abbrev pub looked_free : ℕ → Scan → ℕ → Scan
-looked_free zero scan code = record { free = 1; unit = code }
-looked_free (suc n) scan code = cond (eqb code scan.unit) scan (record { free = 2; unit = scan.unit })
+-- a free literal more: the first is kept, the same again changes nothing, another leaves nothing to say
+abbrev pub looked_free : Scan → ℕ → Scan
+looked_free Refuted code = Forces code
+looked_free (Forces first) code = cond (eqb first code) (Forces first) Quiet
+looked_free Quiet code = Quiet
 
--- a literal more, by the mark of its variable; a true one counts as two
+-- a literal more, by the mark of its variable; a true one leaves nothing to say
 abbrev pub looked_by : ℕ → Scan → ℕ → Scan
-looked_by zero scan code = looked_free scan.free scan code
-looked_by (suc mark) scan code =
-    cond (eqb (suc mark) (code % 2 + 1)) (record { free = 2; unit = scan.unit }) scan
+looked_by zero scan code = looked_free scan code
+looked_by (suc mark) scan code = cond (eqb (suc mark) (code % 2 + 1)) Quiet scan
 
 -- a literal more, under the marks
-unfoldable pub looked : List ℕ → Scan → ℕ → Scan
+abbrev pub looked : List ℕ → Scan → ℕ → Scan
 looked marks scan code = looked_by (get_or marks (code / 2) 0) scan code
 
 -- what the assertions came to, by the answer and the marks that they left
 unfoldable pub outcome : Bool → List ℕ → Asserted
 outcome true marks = contradict
 outcome false marks = marked marks
-
--- what a test of one clause asks for: marks that are all free, and one for each number; stored lists that end in 0
-pub record Ready (formula earlier clause : List ℤ) (marks : List ℕ) : Type 0 where
-  pub clear : marks ≡ replicate (length marks) 0
-  pub formula-fits : Within (length marks) formula
-  pub formula-ends : T (ended formula)
-  pub earlier-fits : Within (length marks) earlier
-  pub earlier-ends : T (ended earlier)
-  pub clause-fits : Within (length marks) clause
 
 -- the place of the first 0 from a place on, or the length; a 0 is the number of code 0
 pub record NextZero (list : List ℤ) (from to : ℕ) : Type 0 where
@@ -90,17 +57,10 @@ pub record NextZero (list : List ℤ) (from to : ℕ) : Type 0 where
   pub none_before : (k : ℕ) → from ≤ k → k < to → code_of (get_or list k (pos 0)) ≡ 0 → ⊥
   pub there : to < length list → code_of (get_or list to (pos 0)) ≡ 0
 
--- what a test of a refutation asks for: marks that are all free, and one for each number; a formula that ends in 0
-pub record Clear (formula refutation : List ℤ) (marks : List ℕ) : Type 0 where
-  pub clear : marks ≡ replicate (length marks) 0
-  pub formula-fits : Within (length marks) formula
-  pub formula-ends : T (ended formula)
-  pub refutation-fits : Within (length marks) refutation
-
 -- the answer that a verdict stands for
 abbrev pub answer_of : Verdict → Checked
-answer_of passes = Passes
-answer_of (stops i) = Refused (Step i)
+answer_of passes = Ok tt
+answer_of (stops i) = Err (Step i)
 
 -- the passes' answer on one clause, where the marks are those given
 abbrev pub follows_from : List ℕ → List ℤ → List ℤ → List ℤ → Bool

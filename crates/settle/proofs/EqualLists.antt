@@ -14,18 +14,18 @@ use Rattle.basics.proofs.Truth.{decide}
 use Rattle.basics.specs.Lists.{up_from}
 use Rattle.basics.proofs.Lists.{map-mem}
 use Rattle.netlist.specs.declared.Shape.{Shape}
-use Rattle.netlist.specs.declared.Opened.{Opened}
-use Rattle.netlist.specs.declared.Opened.TheVariants.{Accepted, Refused as Rejected}
-use Rattle.netlist.specs.Netlist.{Netlist, Circuit, Cell, Pin, node_count, alike, apart, fall_of}
+use Rattle.std.specs.Prelude.{Result, Ok, Err}
+use Rattle.refusal.specs.declared.Refusal.{Refusal}
+use Rattle.netlist.specs.Netlist.{Netlist, Circuit, Cell, Pin, Slopes, node_count, alike, apart, fall_of}
 use Rattle.netlist.specs.Kinds.{bit}
 use Rattle.refusal.specs.Rows.{checked, unless_refused}
 use Rattle.netlist.specs.File.{shape_of, delay_at, pin_at, cell_at, netlist_at, circuit_at, circuit_with}
-use Rattle.netlist.specs.Open.{open_circuit_of}
+use Rattle.netlist.specs.Open.{open_circuit_of, slope_rows}
 use Rattle.netlist.specs.Holds.{Holds}
 use Rattle.netlist.proofs.Ranges.{up_from-within}
 use Rattle.netlist.proofs.Entries.{net-gates, pin-only}
 use Rattle.netlist.proofs.Slopes.{pins-for-equal, slowest-equal, small-passes}
-use Rattle.netlist.proofs.Calls.{accepted, accepted-both}
+use Rattle.netlist.proofs.Calls.{accepted, accepted-both, call-accepted, call-rejected}
 use Rattle.settle.specs.Settling.{
   last,
   settles,
@@ -37,10 +37,8 @@ use Rattle.settle.specs.Settling.{
   tops_of,
   circuit_time,
 }
-use Rattle.settle.specs.declared.Settled.TheVariants.{At}
 use Rattle.settle.specs.Promise.{bits, refused, settled, evaluation_rows, evaluation_of, evaluation}
 use Rattle.settle.proofs.Grow.{grow-cong}
-use Rattle.settle.proofs.Checks.{of-accepted, of-rejected}
 
 -- ---- of a netlist as data
 
@@ -113,7 +111,7 @@ module _ (file : List ℕ) (shape : Shape) (h : Holds file shape) (falls : List 
       unless_refused (checked (evaluation_rows (circuit_at file shape arrivals) vector values_room times_room))
       (refused values_room times_room)
       (record {
-        answer = At time;
+        answer = Ok time;
         values = map bit (values_of net (bits vector)) ++ replicate (values_room - node_count net) 0;
         times = times ++ replicate (times_room - node_count net) 0;
       }))
@@ -135,6 +133,27 @@ own-small {file} {shape} h falls long equal pin = go (decide (ltb pin shape.pins
         let e = get_or-eq_default falls 0 {n = pin} (omega arith) in
         omega arith
 
+module _ (file arrivals : List ℕ) (slopes : Slopes) (vector : List ℕ) (values_room times_room : ℕ) where
+  -- the evaluation of what the checks of the file, the arrivals and the slopes accept
+  of-accepted : (shape : Shape) → open_circuit_of file arrivals ≡ Ok shape →
+      checked (slope_rows shape.pins slopes) ≡ Ok tt →
+      evaluation file arrivals slopes vector values_room times_room
+      ≡ evaluation_of (circuit_with file shape arrivals slopes) vector values_room times_room
+  unfolding evaluation evaluation_of
+  of-accepted shape e f =
+      call-accepted file arrivals slopes (λ circuit. evaluation_rows circuit vector values_room times_room)
+      (refused values_room times_room)
+      (λ circuit. settled circuit vector values_room times_room) e f
+
+  -- and of what the checks of the file and the arrivals refuse
+  of-rejected : (refusal : Refusal) → open_circuit_of file arrivals ≡ Err refusal →
+      evaluation file arrivals slopes vector values_room times_room ≡ refused values_room times_room refusal
+  unfolding evaluation
+  of-rejected refusal e =
+      call-rejected file arrivals slopes (λ circuit. evaluation_rows circuit vector values_room times_room)
+      (refused values_room times_room)
+      (λ circuit. settled circuit vector values_room times_room) e
+
 -- the rise-fall evaluation with the file's own delays as the list is the single form's, refusals and all
 pub equal-calls : (file arrivals falls vector : List ℕ) (values_room times_room : ℕ) →
     length falls ≡ (shape_of file).pins →
@@ -143,13 +162,13 @@ pub equal-calls : (file arrivals falls vector : List ℕ) (values_room times_roo
     ≡ evaluation file arrivals alike vector values_room times_room
 equal-calls file arrivals falls vector values_room times_room long equal = go (open_circuit_of file arrivals) refl
   where
-    go : (o : Opened) → open_circuit_of file arrivals ≡ o →
+    go : (o : Result Shape Refusal) → open_circuit_of file arrivals ≡ o →
         evaluation file arrivals (apart falls) vector values_room times_room
         ≡ evaluation file arrivals alike vector values_room times_room
-    go (Rejected refusal) e =
+    go (Err refusal) e =
         of-rejected file arrivals (apart falls) vector values_room times_room refusal e
         ∙ sym (of-rejected file arrivals alike vector values_room times_room refusal e)
-    go (Accepted shape) e =
+    go (Ok shape) e =
         let is = (accepted-both file arrivals e).1 in
         let h = (accepted file arrivals e).holds in
         let many : length falls ≡ shape.pins = long ∙ ap (λ (s : Shape). s.pins) is in

@@ -31,7 +31,7 @@ use Rattle.netlist.specs.Open.{
 }
 use Rattle.netlist.specs.Example.{circuit_a}
 use Rattle.netlist.specs.Edges.{written}
-use Rattle.settle.specs.declared.Settled.TheVariants.{At}
+use Rattle.std.specs.Prelude.{Ok}
 use Rattle.settle.specs.Settling.{gate_value, settles, grow, values_of, times_of, tops_of, circuit_time}
 use Rattle.settle.specs.Promise.{Evaluation, evaluation, given_rows, settled}
 use Rattle.netlist.specs.Netlist.{Slopes, alike}
@@ -61,7 +61,7 @@ mux_of_three =
 
 -- the circuit settles at a time, with these values and times
 abbrev settles_at : ℕ → List ℕ → List ℕ → Evaluation
-settles_at time values times = record { answer = At time; values = values; times = times }
+settles_at time values times = record { answer = Ok time; values = values; times = times }
 
 -- a file whose inputs arrive at 0, a vector, and what they give
 abbrev case : List ℕ → List ℕ → Evaluation → Case

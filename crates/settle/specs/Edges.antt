@@ -24,7 +24,7 @@ use Rattle.netlist.specs.Open.{
 }
 use Rattle.netlist.specs.Example.{circuit_a}
 use Rattle.netlist.specs.Edges.{written, one_gate}
-use Rattle.settle.specs.declared.Settled.TheVariants.{At}
+use Rattle.std.specs.Prelude.{Ok}
 use Rattle.settle.specs.Settling.{gate_value, settles, grow, values_of, times_of, circuit_time}
 use Rattle.settle.specs.Promise.{refused, evaluation, given_rows, settled}
 use Rattle.settle.specs.Cases.{Case, run, late_cases}
@@ -40,7 +40,7 @@ gives_by slopes kind delays vector value time =
       vector = vector;
       expected =
           record {
-            answer = At time;
+            answer = Ok time;
             values = vector ++ (value ∷ []);
             times = replicate (length vector) 0 ++ (time ∷ []);
           };
@@ -119,7 +119,7 @@ orders =
       vector = 0 ∷ 0 ∷ [];
       expected =
           record {
-            answer = At 2;
+            answer = Ok 2;
             values = replicate 7 0;
             times = 0 ∷ 0 ∷ 3 ∷ 1 ∷ 2 ∷ 0 ∷ [];
           };
@@ -186,7 +186,7 @@ inverters arrival vector values times =
       arrivals = arrival ∷ [];
       slopes = apart (5 ∷ 7 ∷ 6 ∷ []);
       vector = vector ∷ [];
-      expected = record { answer = At (get_or times 3 0); values = vector ∷ values; times = times };
+      expected = record { answer = Ok (get_or times 3 0); values = vector ∷ values; times = times };
     }
 
 -- circuit A with its inputs at 0, these delays to fall and both inputs at 0
@@ -197,7 +197,7 @@ circuit_a_falls falls time times =
       arrivals = 0 ∷ 0 ∷ [];
       slopes = apart falls;
       vector = 0 ∷ 0 ∷ [];
-      expected = record { answer = At time; values = replicate 5 0; times = times };
+      expected = record { answer = Ok time; values = replicate 5 0; times = times };
     }
 
 -- under both vectors, and with a late input; circuit A with each delay the same in both lists, and with the largest

@@ -1,5 +1,5 @@
--- What `evaluate` and `evaluate_rise_fall` answer and leave in the two lent slices, for every input: 1..7, 16, 19 and
--- 8, then 9 for values, then for times.
+-- What `evaluate` answers and leaves in the two lent slices, for every input: 1..7, 16, 19 and 8, then 9 for values,
+-- then for times.
 -- Interface: evaluation, Meets.
 use Rattle.std.specs.Prelude.{◌≡◌, Bool, List, [], ◌∷◌, ◌++◌, map, ℕ, ◌-◌, eqb, replicate}
 use Rattle.refusal.specs.declared.Refusal.{Refusal}
@@ -8,8 +8,7 @@ use Rattle.refusal.specs.Rows.{Row, checked, unless_refused, room_row}
 use Rattle.netlist.specs.Netlist.{Circuit, node_count, Slopes}
 use Rattle.netlist.specs.Kinds.{bit}
 use Rattle.netlist.specs.Open.{list_rows, call_over}
-use Rattle.settle.specs.declared.Settled.{Settled}
-use Rattle.settle.specs.declared.Settled.TheVariants.{At, Refused}
+use Rattle.std.specs.Prelude.{Result, Ok, Err}
 use Rattle.settle.specs.Settling.{values_of, times_of, circuit_time}
 
 -- a vector's bytes as Bools
@@ -18,12 +17,12 @@ bits vector = map (λ byte. eqb byte 1) vector
 
 -- the answer, and the whole content of each lent slice
 pub record Evaluation : Type 0 where
-  pub answer : Settled
+  pub answer : Result ℕ Refusal
   pub values : List ℕ
   pub times : List ℕ
 
 -- an answer and the contents of the slices are those of an evaluation
-pub record Meets (promised : Evaluation) (answer : Settled) (values times : List ℕ) : Type 0 where
+pub record Meets (promised : Evaluation) (answer : Result ℕ Refusal) (values times : List ℕ) : Type 0 where
   pub answer-is : answer ≡ promised.answer
   pub values-are : values ≡ promised.values
   pub times-are : times ≡ promised.times
@@ -31,13 +30,13 @@ pub record Meets (promised : Evaluation) (answer : Settled) (values times : List
 -- after a refusal every lent slice holds zeros (rule C7)
 abbrev pub refused : ℕ → ℕ → Refusal → Evaluation
 refused values_room times_room refusal =
-    record { answer = Refused refusal; values = replicate values_room 0; times = replicate times_room 0 }
+    record { answer = Err refusal; values = replicate values_room 0; times = replicate times_room 0 }
 
 -- values and times, and zeros in all of the rest (rule C8)
 unfoldable pub settled : Circuit → List ℕ → ℕ → ℕ → Evaluation
 settled circuit vector values_room times_room =
     record {
-      answer = At (circuit_time circuit (bits vector));
+      answer = Ok (circuit_time circuit (bits vector));
       values = map bit (values_of circuit.net (bits vector)) ++ replicate (values_room - node_count circuit.net) 0;
       times = times_of circuit (bits vector) ++ replicate (times_room - node_count circuit.net) 0;
     }

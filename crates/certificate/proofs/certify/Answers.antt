@@ -1,32 +1,79 @@
--- `certificate::certify` meets its contract: each arm of the match is a case of the vector's row, and where that passes
--- the refutation's part follows. A delay at which the vector settles is small, so one more fits. Assumes nothing.
-use Rattle.std.proofs.Common.{rules, arith, refl, add-one}
+-- `certificate::certify` meets its contract: a refusal of a step is that of all rows, since those before it passed; and
+-- where the formula is built, the test is of its numbers. A time at which a vector settles is small, so one more fits.
+-- Assumes nothing.
+use Rattle.std.proofs.Common.{rules, arith, refl, add-one, ◌+◌, ◌≤◌}
+use Rattle.settle.specs.Steps.{latest}
+use Rattle.netlist.specs.Accepts.{circuit_in}
 use Rattle.certificate.proofs.Steps.{
   time-small,
-  certified-unsettled,
-  certified-late,
-  certified-tested,
+  FormulaFront,
+  formula-front,
+  answers-refused,
+  unaccepted,
+  unsettled,
+  late,
+  unbuilt,
+  tested,
+  leaves-all,
 }
 use Rattle.certificate.proofs.certify.Goals as goal
+use Rattle.certificate.proofs.certify.Goals.{In_ok-counts}
+
+-- the formula's numbers at the front of their slice
+front : (c : In_ok-counts) →
+    FormulaFront (circuit_in c.in_ok-accepted.accepted) (c.args.delay + 1) c.in_ok-counts.counts
+    c.build_accepted.new.formula
+front c =
+    let b = c.build_accepted.ensures in
+    formula-front _ _ c.in_ok-accepted.accepted.given.holds.valid b.answer-is b.formula-is (search rules)
 
 pub overflow_add-delay : goal.overflow_add-delay
 overflow_add-delay c =
-    let e = c.evaluate_given-settled.ensures.answer-is in
-    let h = time-small _ _ _ _ c.requires.0 c.requires.1 e c.in-At.is in
-    omega (arith, c.if-time-delay.true)
+    let a = c.in_ok-accepted.accepted in
+    let h : c.in_ok-time.time ≤ latest =
+    time-small a _ _ _ a.given a.sloped c.evaluate_accepted.ensures.answer-is (search rules)
+    in
+    omega (arith, c.if-time-delay.false)
 
-pub returns-then-time-delay : goal.returns-then-time-delay
-returns-then-time-delay c =
-    let e = c.evaluate_given-settled.ensures in
-    certified-tested e.answer-is c.in-At.is c.if-time-delay.true e.values-are e.times-are
-    (search rules) (search rules) (add-one _) c.refutes.ensures
+pub returns-in_err-accepted-clause-answers : goal.returns-in_err-accepted-clause-answers
+returns-in_err-accepted-clause-answers c =
+    answers-refused {refusal = c.in_err-accepted.field-0.0} (search rules)
+    (unaccepted _ _ _ _ _ _ _ c.in_err-accepted.ensures)
 
-pub returns-in-Refused : goal.returns-in-Refused
-returns-in-Refused c =
-    let e = c.evaluate_given-settled.ensures in
-    certified-unsettled e.answer-is c.in-Refused.is (search rules) (search rules) refl refl refl
+pub returns-in_err-time-clause-answers : goal.returns-in_err-time-clause-answers
+returns-in_err-time-clause-answers c =
+    answers-refused {refusal = c.in_err-time.field-0.0} (search rules)
+    (unsettled _ _ _ _ c.in_ok-accepted.ensures c.evaluate_accepted.ensures.answer-is (search rules))
 
-pub returns-else-time-delay : goal.returns-else-time-delay
-returns-else-time-delay c =
-    let e = c.evaluate_given-settled.ensures in
-    certified-late e.answer-is c.in-At.is c.if-time-delay.false (search rules) (search rules) refl refl refl
+pub returns-then-time-delay-clause-answers : goal.returns-then-time-delay-clause-answers
+returns-then-time-delay-clause-answers c =
+    answers-refused refl
+    (late _ _ _ _ c.in_ok-accepted.ensures c.evaluate_accepted.ensures.answer-is (search rules) c.if-time-delay.true)
+
+pub returns-in_err-counts-clause-answers : goal.returns-in_err-counts-clause-answers
+returns-in_err-counts-clause-answers c =
+    answers-refused {refusal = c.in_err-counts.field-0.0} (search rules)
+    (unbuilt _ _ _ _ c.in_ok-accepted.ensures c.evaluate_accepted.ensures.answer-is (search rules) c.if-time-delay.false
+    (add-one _) c.build_accepted.ensures.answer-is (search rules))
+
+pub slice_bounds-numbers-end : goal.slice_bounds-numbers-end
+slice_bounds-numbers-end c = (front (goal.at.slice_bounds-numbers-end c).In_ok-counts).fit
+
+pub slice_bounds-numbers-end-2 : goal.slice_bounds-numbers-end-2
+slice_bounds-numbers-end-2 c = (front (goal.at.slice_bounds-numbers-end-2 c).In_ok-counts).front_long
+
+pub test-requires : goal.test-requires
+test-requires c = (front (goal.at.test-requires c).In_ok-counts).well-formed
+
+pub returns-clause-answers : goal.returns-clause-answers
+returns-clause-answers c =
+    tested _ _ _ _ c.in_ok-accepted.ensures c.evaluate_accepted.ensures.answer-is (search rules) c.if-time-delay.false
+    (add-one _) c.build_accepted.ensures.answer-is (search rules)
+    (front (goal.at.returns-clause-answers c).In_ok-counts) c.test.ensures.tested
+
+pub returns-clause-leaves : goal.returns-clause-leaves
+returns-clause-leaves c =
+    let e = c.evaluate_accepted.ensures in
+    let b = c.build_accepted.ensures in
+    leaves-all _ _ c.args.refutation.now _ c.in_ok-accepted.ensures (add-one _) e.values-are e.times-are b.pairs-are
+    b.formula-is c.test.ensures.propagation_after

@@ -9,5 +9,5 @@ slice_bounds-read-end c = sym (length-replicate {0} {A = ℕ} 524289 0)
 pub slice_bounds-input-end : goal.slice_bounds-input-end
 slice_bounds-input-end c = c.in_ok-got.ensures.bound.0
 
-pub slice_bounds-take-end : goal.slice_bounds-take-end
-slice_bounds-take-end c = c.in_ok-got.ensures.bound.1
+pub slice_bounds-answer-end : goal.slice_bounds-answer-end
+slice_bounds-answer-end c = c.in_ok-got.ensures.bound.1

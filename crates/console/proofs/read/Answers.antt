@@ -37,7 +37,6 @@ loop-done-preserved g c =
     take_split from (from + come) c.loop-done.slice (put_mid from room c.loop-done.slice c.read.new.buf)
     (omega arith) (take-put_mid_below _ _ _ _ _ (le_refl _) within) in
     record {
-      long = search rules;
       upto = search rules;
       came = subst (Consumes _ _) (ap (λ l. take from c.loop-done.slice ++ l) (sym part) ∙ joined)
           (Consumes-trans _ _ _ _ _ c.loop-done.invariant.came c.in_ok-came.ensures.bytes.0);

@@ -1,54 +1,29 @@
 -- `netlist::pins_fit` meets its contract: the ranges of the kinds, in order. Assumes nothing.
-use borrow.Author.Tests.{lt-ltb, le-ltb}
+use Rattle.std.proofs.Common.{arith}
+use Rattle.std.proofs.lemmas.Bool.Decides.{nat_tests}
 use Rattle.netlist.specs.Kinds.{pins_fit}
 use Rattle.netlist.proofs.pins_fit.Goals as goal
 
-pub returns-then-kind-lt1 : goal.returns-then-kind-lt1
+pub returns-in-1 : goal.returns-in-1
 unfolding pins_fit
-returns-then-kind-lt1 c = simp (lt-ltb _ _ c.if-kind-lt1.true)
+returns-in-1 c = grind (arith, nat_tests)
 
-pub returns-then-kind-lt3 : goal.returns-then-kind-lt3
+pub returns-in-3-to-6 : goal.returns-in-3-to-6
 unfolding pins_fit
-returns-then-kind-lt3 c = simp (le-ltb _ _ c.if-kind-lt1.false, lt-ltb _ _ c.if-kind-lt3.true)
+returns-in-3-to-6 c = grind (arith, nat_tests, c.contains.ensures.value)
 
-pub returns-then-kind-lt7 : goal.returns-then-kind-lt7
+pub returns-in-7 : goal.returns-in-7
 unfolding pins_fit
-returns-then-kind-lt7 c =
-    simp (
-      c.between.ensures,
-      le-ltb _ _ c.if-kind-lt1.false,
-      le-ltb _ _ c.if-kind-lt3.false,
-      lt-ltb _ _ c.if-kind-lt7.true,
-    )
+returns-in-7 c = grind (arith, nat_tests)
 
-pub returns-then-kind-lt9 : goal.returns-then-kind-lt9
+pub returns-in-9 : goal.returns-in-9
 unfolding pins_fit
-returns-then-kind-lt9 c =
-    simp (
-      le-ltb _ _ c.if-kind-lt1.false,
-      le-ltb _ _ c.if-kind-lt3.false,
-      le-ltb _ _ c.if-kind-lt7.false,
-      lt-ltb _ _ c.if-kind-lt9.true,
-    )
+returns-in-9 c = grind (arith, nat_tests)
 
-pub returns-then-kind-lt10 : goal.returns-then-kind-lt10
+pub returns-in_default : goal.returns-in_default
 unfolding pins_fit
-returns-then-kind-lt10 c =
-    simp (
-      le-ltb _ _ c.if-kind-lt1.false,
-      le-ltb _ _ c.if-kind-lt3.false,
-      le-ltb _ _ c.if-kind-lt7.false,
-      le-ltb _ _ c.if-kind-lt9.false,
-      lt-ltb _ _ c.if-kind-lt10.true,
-    )
+returns-in_default c = grind (arith, nat_tests)
 
-pub returns : goal.returns
+pub returns-in_default-2 : goal.returns-in_default-2
 unfolding pins_fit
-returns c =
-    simp (
-      le-ltb _ _ c.if-kind-lt1.false,
-      le-ltb _ _ c.if-kind-lt3.false,
-      le-ltb _ _ c.if-kind-lt7.false,
-      le-ltb _ _ c.if-kind-lt9.false,
-      le-ltb _ _ c.if-kind-lt10.false,
-    )
+returns-in_default-2 c = grind (arith, nat_tests)

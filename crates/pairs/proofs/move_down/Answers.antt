@@ -4,4 +4,4 @@ use Rattle.pairs.proofs.Moving.{moving-more}
 use Rattle.pairs.proofs.move_down.Goals as goal
 
 pub loop-i-preserved : goal.loop-i-preserved
-loop-i-preserved c = (omega arith, moving-more _ c.loop-i.invariant.1 (omega arith))
+loop-i-preserved c = moving-more _ c.loop-i.invariant (omega arith)

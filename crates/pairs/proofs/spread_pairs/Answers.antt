@@ -9,8 +9,7 @@ pub loop-k-init : goal.loop-k-init
 loop-k-init c = spreading-starts _ _ c.requires
 
 pub loop-k-preserved : goal.loop-k-preserved
-loop-k-preserved c =
-    spreading-more c.loop-k.invariant _ _ (omega arith) refl refl c.put_three.ensures
+loop-k-preserved c = spreading-more c.loop-k.invariant _ _ (omega arith) refl refl c.put_three.ensures
 
 pub returns : goal.returns
 returns c falls = spreading-ends falls c.loop-k.invariant (omega arith)

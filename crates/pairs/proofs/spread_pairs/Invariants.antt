@@ -9,7 +9,3 @@ use Rattle.pairs.proofs.spread_pairs.Given as goal
 abbrev pub invariant-loop-k : goal.invariant-loop-k
 invariant-loop-k l =
     Spreading (pairs_in (take (l.count * 2) l.initial.table)) l.initial.table l.table l.count l.k
-
-abbrev pub decreases-loop-k : goal.decreases-loop-k
-decreases-loop-k l =
-    l.k

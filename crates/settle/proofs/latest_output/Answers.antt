@@ -3,13 +3,13 @@
 use Rattle.settle.proofs.Whole as L
 use Rattle.settle.proofs.latest_output.Goals as goal
 
+pub loop-position-init : goal.loop-position-init
+loop-position-init c = L.passing-starts _ _
+
 pub loop-position-preserved : goal.loop-position-preserved
 loop-position-preserved c =
-    L.passing-more c.loop-position.invariant c.loop-position-test.true
-    c.output_at-node.result
-    c.later-latest.result
-    c.output_at-node.ensures.0
-    c.later-latest.ensures
+    L.passing-more c.loop-position.invariant c.loop-position-test.true c.output.result c.max-latest.result
+    c.output.ensures.value c.max-latest.ensures
 
 pub returns : goal.returns
 returns c = L.passing-ends c.loop-position.invariant c.loop-position-test.false

@@ -1,5 +1,0 @@
--- It ends: a tenth of the number is less.
-use Rattle.console.proofs.+put_digits.Given as goal
-
-abbrev pub decreases-put_digits : goal.decreases-put_digits
-decreases-put_digits l = l.number

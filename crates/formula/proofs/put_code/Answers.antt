@@ -1,8 +1,0 @@
--- `formula::put_code` meets its contract: one token more. Assumes nothing.
-use Rattle.clauses.specs.Codes.{written}
-use borrow.Author.Rules.{rules}
-use Rattle.formula.proofs.put_code.Goals as goal
-
-pub returns : goal.returns
-unfolding written
-returns c = search rules
