@@ -19,7 +19,7 @@ LIBRARY = {"deb": "lib/x86_64-linux-gnu", "tar": "lib"}
 DOCS = {"deb": "share/doc/buzzlumen", "tar": "."}
 SCRIPTS = ("postinst", "prerm")
 # Pages for those who keep the tree, which say how it came from an older kit and to its forms; no package holds them.
-FOR_THE_TREE = {"docs/DESIGN-PASS.md", "docs/PORT.md"}
+FOR_THE_TREE = {"docs/DESIGN-PASS.md", "docs/LOOK-BACK.md", "docs/PORT.md"}
 
 # A file of a package: its mode, or None for a link; where it stands; the file of the tree, or what the link names.
 Entry = namedtuple("Entry", "mode place source")
