@@ -1,12 +1,14 @@
--- The numbers that the programs take from bytes, all of them four bytes, little endian. Which bytes come is in no
--- contract. Interface: words_of, numbers_of,
--- unsigned_of, told_of, count_of, word_of, Came.
-use Rattle.std.specs.Prelude.{◌≡◌, cond, List, map, ℕ, ◌-◌, ◌*◌, ◌/◌, ◌≤◌, min, eqb, ltb, ℤ, length}
+-- The numbers that the programs take from bytes, all of them four bytes, little endian. Interface: words_of,
+-- numbers_of, unsigned_of, told_of, count_of, word_of, Came, counted_by.
+use Rattle.std.specs.Prelude.{◌≡◌, cond, List, map, ℕ, ◌-◌, ◌*◌, ◌/◌, ◌≤◌, min, eqb, leb, ltb, ℤ, length}
+use Rattle.std.specs.Prelude.{Option, Some, None, Result, Ok, Err}
 use Rattle.basics.specs.Lists.{up_from}
 use Rattle.lent.specs.Bytes.{four_bytes}
 use Rattle.clauses.specs.Codes.{signed_of}
 use Rattle.console.specs.declared.Word.{Word}
 use Rattle.console.specs.declared.Word.TheVariants.{Number, Nothing, Cut}
+use Rattle.console.specs.declared.Stop.{Stop}
+use Rattle.console.specs.declared.Stop.TheVariants.{Bad}
 
 -- so many numbers from the front of bytes, by the number that a word of four bytes stands for
 unfoldable pub words_of : {A : Type 0} → (ℕ → A) → List ℕ → ℕ → List A
@@ -39,3 +41,9 @@ pub record Came (word : Word) : Type 0 where
   pub few : got ≤ 4
   pub four : length bytes ≡ 4
   pub is : word ≡ word_of got bytes
+
+-- what is made of it where a number of at most so many should stand, or the input end
+abbrev pub counted_by : ℕ → Word → Result (Option ℕ) Stop
+counted_by most (Number count) = cond (leb count most) (Ok (Some count)) (Err Bad)
+counted_by most Nothing = Ok None
+counted_by most Cut = Err Bad

@@ -11,7 +11,7 @@ ghost use Rattle.std.specs.Io.KnownBytes.{Consumes, IsAtEnd};
 ghost use Rattle.refusal.specs.Table.{number_text, refusal_text};
 ghost use Rattle.clauses.specs.Codes.{signed_of};
 ghost use Rattle.lent.specs.Bytes.{four_bytes};
-ghost use Rattle.console.specs.Reading.{words_of, told_of, count_of, word_of, Came};
+ghost use Rattle.console.specs.Reading.{words_of, told_of, count_of, word_of, Came, counted_by};
 ghost use Rattle.console.specs.Writing.{Written};
 
 use refusal::Refusal;
@@ -253,6 +253,11 @@ pub fn fill<R: Read>(input: &mut R, slice: &mut [u8]) -> Result<(), Stop>
 // Reads a number of at most so many, none at the input's end.
 pub fn read_count<R: Read>(input: &mut R, most: usize) -> Result<Option<usize>, Stop>
     ensures most { IfOk result (λ read. IfSome read (λ count. count ≤ most)) }
+    ensures read { ((error : _) → result ≡ Err (Stop.Failed error) → ⊥) → (bytes : List ℕ)
+        × (result ≡ counted_by most (word_of (length bytes) bytes))
+        × Consumes (R.remaining input.old) (R.remaining input.new) bytes }
+    ensures failed { (error : _) → result ≡ Err (Stop.Failed error) → (bytes : List ℕ) × (length bytes ≤ 4)
+        × Consumes (R.remaining input.old) (R.remaining input.new) bytes }
     ensures bytes { IfOk result (λ read. IfSome read (λ count. (bytes : List ℕ)
         × (Word.Number count ≡ word_of (length bytes) bytes)
         × Consumes (R.remaining input.old) (R.remaining input.new) bytes)) }
@@ -270,6 +275,7 @@ pub fn read_count<R: Read>(input: &mut R, most: usize) -> Result<Option<usize>, 
 // Whether a bundle goes on behind what came of a case; where that is none, it ends with its line.
 pub fn goes_on<W: Write>(out: &mut W, case: Result<bool, Stop>) -> io::Result<bool>
     ensures answered { IfOk case (λ more. result ≡ Ok more) }
+    ensures untouched { (case ≡ Err Stop.Bad → ⊥) → W.contents out.new ≡ W.contents out.old }
     ensures no_more { case ≡ Err Stop.Bad → IfOk result (λ more. more ≡ false) }
     ensures written { case ≡ Err Stop.Bad
         → Written (W.contents out.old) (W.contents out.new) result (codes "bad bundle" ++ (10 ∷ [])) }
