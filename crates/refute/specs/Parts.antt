@@ -4,7 +4,7 @@ use Rattle.std.specs.Prelude.{◌≡◌, cond, List, [], ◌∷◌, ◌++◌, �
 use Rattle.std.specs.Prelude.{length, get_or, take, drop, Result, Ok, Err}
 use Rattle.std.specs.Borrow.{Bor}
 use Rattle.basics.specs.Lists.{concat_map}
-use Rattle.std.specs.declared.ops.Range.{Range}
+use Rattle.refute.specs.declared.Stretch.{Stretch}
 use Rattle.refute.specs.declared.Span.{Span}
 use Rattle.refute.specs.declared.Span.TheVariants.{Formula, Refutation}
 
@@ -24,26 +24,26 @@ unfoldable pub start_of : List ℤ → ℕ → ℕ
 start_of zs n = length (concat_map (λ (p : List ℤ). p) (take n (parts zs)))
 
 -- from a place up to another
-abbrev pub stretch : ℕ → ℕ → Range ℕ
+abbrev pub stretch : ℕ → ℕ → Stretch
 stretch start end = record { start = start; end = end }
 
 -- a stretch lies in a list
-pub record InList (list : List ℤ) (part : Range ℕ) : Type 0 where
+pub record InList (list : List ℤ) (part : Stretch) : Type 0 where
   pub rises : part.start ≤ part.end
   pub upto : part.end ≤ length list
 
 -- part number n of one list: from where to where; or how many the number is beyond the parts
-unfoldable pub found_in : List ℤ → ℕ → Result (Range ℕ) ℕ
+unfoldable pub found_in : List ℤ → ℕ → Result Stretch ℕ
 found_in zs n =
     cond (ltb n (length (parts zs))) (Ok (stretch (start_of zs n) (start_of zs (suc n)))) (Err (n - length (parts zs)))
 
 -- what is found in the refutation; beyond its last clause, the stretch of length 0 at its end (rule L4)
-abbrev pub span_second : Result (Range ℕ) ℕ → ℕ → Span
+abbrev pub span_second : Result Stretch ℕ → ℕ → Span
 span_second (Ok part) last = Refutation part
 span_second (Err n) last = Refutation (stretch last last)
 
 -- what is found in the formula; what is not is looked for in the refutation
-abbrev pub span_first : Result (Range ℕ) ℕ → List ℤ → Span
+abbrev pub span_first : Result Stretch ℕ → List ℤ → Span
 span_first (Ok part) refutation = Formula part
 span_first (Err n) refutation = span_second (found_in refutation n) (length refutation)
 
@@ -57,7 +57,7 @@ SpanInList formula refutation (Formula part) = InList formula part
 SpanInList formula refutation (Refutation part) = InList refutation part
 
 -- what of a list stands from a place up to another
-abbrev pub held_by : List ℤ → Range ℕ → List ℤ
+abbrev pub held_by : List ℤ → Stretch → List ℤ
 held_by list part = take (part.end - part.start) (drop part.start list)
 
 -- what a span holds

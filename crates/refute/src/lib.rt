@@ -15,16 +15,22 @@ ghost use Rattle.refute.specs.Rows.{ended, formula_rows, refutation_form, last_r
 ghost use Rattle.refute.specs.Rows.{refutation_rows, WellFormed};
 
 use refusal::Refusal;
-use std::ops::Range;
 
 // The most variables of a formula.
 const MOST_VARIABLES: usize = 100000;
 
+// From one place of a list up to another. Not std's `Range`, which can't be copied.
+#[derive(Clone, Copy)]
+pub struct Stretch {
+    pub start: usize,
+    pub end: usize,
+}
+
 // Where a clause stands: in which of the two lists, and where there.
-#[derive(Clone, Drop)]
+#[derive(Clone, Copy)]
 pub enum Span {
-    Formula(Range<usize>),
-    Refutation(Range<usize>),
+    Formula(Stretch),
+    Refutation(Stretch),
 }
 
 // The place of the first number of magnitude over the variable count.
@@ -140,7 +146,7 @@ fn mark_of(code: usize) -> u8
 // What the literals of a clause say under the marks: that it is false, that the literal of a code has to become true,
 // or nothing, and then there is nothing to say whatever comes after them.
 #[derive(Clone, Copy)]
-enum Scan {
+pub enum Scan {
     Refuted,
     Forces(usize),
     Quiet,
@@ -325,7 +331,7 @@ pub fn check(
 
 // Where the clause with a number stands in one list, its 0 included; or how many the number is beyond the clauses. The
 // loop steps by clauses and counts them down.
-fn find(list: &[i32], number: usize) -> Result<Range<usize>, usize>
+fn find(list: &[i32], number: usize) -> Result<Stretch, usize>
     ensures found { result ≡ found_in list.now number }
     ensures within { IfOk result (InList list.now) }
 {
@@ -333,7 +339,10 @@ fn find(list: &[i32], number: usize) -> Result<Range<usize>, usize>
     let mut left = number;
     while let Some(zero) = next_zero(list, start) {
         if left == 0 {
-            return Ok(start..zero + 1);
+            return Ok(Stretch {
+                start,
+                end: zero + 1,
+            });
         }
         left -= 1;
         start = zero + 1;
@@ -350,7 +359,10 @@ pub fn span_of(formula: &[i32], refutation: &[i32], number: usize) -> Span
         Ok(part) => Span::Formula(part),
         Err(left) => match find(refutation, left) {
             Ok(part) => Span::Refutation(part),
-            Err(_) => Span::Refutation(refutation.len()..refutation.len()),
+            Err(_) => Span::Refutation(Stretch {
+                start: refutation.len(),
+                end: refutation.len(),
+            }),
         },
     }
 }
@@ -361,7 +373,7 @@ pub fn clause<'a>(formula: &'a [i32], refutation: &'a [i32], number: usize) -> &
     ensures { ClausePart formula.entry refutation.entry number result }
 {
     match span_of(formula, refutation, number) {
-        Span::Formula(part) => &formula[part],
-        Span::Refutation(part) => &refutation[part],
+        Span::Formula(part) => &formula[part.start..part.end],
+        Span::Refutation(part) => &refutation[part.start..part.end],
     }
 }
