@@ -1,6 +1,6 @@
 -- The promise of judge implies the theorem: where the answer is that the certificate passes, the rows before 14 passed
--- and the refutation's verdict is that it passes, so the delay is the largest settling time. Laws: certificate-largest,
--- slopes-pass, rows-admit, answers-largest, judges-largest. Assumes nothing.
+-- and the refutation's verdict is that it passes, so the delay is the largest settling time. Laws: judged-passes,
+-- certificate-largest, slopes-pass, rows-admit, answers-largest, judges-largest. Assumes nothing.
 use mathlib.Core.Path.{◌≡◌, refl, sym, ◌∙◌}
 use mathlib.Core.List.{List, ◌++◌}
 use Prim.Native.Nat.{ℕ, suc}
@@ -43,6 +43,16 @@ answer-passes : (circuit : Circuit) (delay : ℕ) (vector : List ℕ) (rooms : R
     (judgement_of circuit delay vector rooms answer).answer ≡ Ok tt → answer ≡ Ok tt
 answer-passes circuit delay vector rooms (Ok tt) e = refl
 answer-passes circuit delay vector rooms (Err refusal) e = let w : ◌≡◌ {A = ℕ} 0 1 = cc in absurd (omega arith)
+
+-- where the answer is a pass, the rows passed, and so did the refutation
+pub judged-passes : {file arrivals : List ℕ} {slopes : Slopes} {delay : ℕ} {vector : List ℕ} {refutation : List ℤ}
+    {rooms : Rooms} {result : Judgement} → Judges file arrivals slopes delay vector refutation rooms result →
+    result.answer ≡ Ok tt →
+    (checked (rows_over file arrivals slopes (certificate_rows delay vector refutation rooms)) ≡ Ok tt)
+    × Judged (clauses_of (numbers_for (circuit_of file arrivals slopes) (suc delay))) (clauses_of refutation) passes
+judged-passes {file} {arrivals} {slopes} {delay} {vector} {refutation} {rooms} d e =
+    passes-both d.answers
+    (answer-passes (circuit_of file arrivals slopes) delay vector rooms d.answer (sym d.meets.answer-is ∙ e))
 
 -- what the rows of a file, its arrivals and its slopes leave of a circuit: a valid netlist, with an arrival for each
 -- input and small delays

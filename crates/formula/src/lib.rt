@@ -94,9 +94,9 @@ pub struct Counts {
 // How far the formula is written: the place of the next number, whether or not there is room for it, and the clauses
 // that are ended.
 #[derive(Clone, Copy)]
-struct Emitted {
-    numbers: usize,
-    clauses: usize,
+pub struct Emitted {
+    pub numbers: usize,
+    pub clauses: usize,
 }
 
 // A formula as it is written: the slice that is lent for it, and how far it is written.
@@ -135,32 +135,32 @@ struct Read {
 
 // A node and a time.
 #[derive(Clone, Copy)]
-struct Moment {
-    node: usize,
-    time: usize,
+pub struct Moment {
+    pub node: usize,
+    pub time: usize,
 }
 
 // A pair of the table: a rail and a time.
 #[derive(Clone, Copy)]
-struct Pair {
-    rail: usize,
-    time: usize,
+pub struct Pair {
+    pub rail: usize,
+    pub time: usize,
 }
 
 // What is known of a node that is asked for: its number, and that it is late, as a code for each of its rails. The
 // second code is 0, for no literal, where a node has one rail. Codes and no enum: 128 of them stand in an array, and
 // are written as they are.
 #[derive(Clone, Copy)]
-struct Asked {
-    node: usize,
-    late: usize,
-    more: usize,
+pub struct Asked {
+    pub node: usize,
+    pub late: usize,
+    pub more: usize,
 }
 
 // Who asks whether a node is late: the pins of gates, each for its driver at a time less its own delay, or less the one
 // that is lent for gates that end at 0; or the outputs.
 #[derive(Clone, Copy)]
-enum Side<'a> {
+pub enum Side<'a> {
     Pins,
     Falls(&'a [u32]),
     Outputs,
@@ -171,7 +171,7 @@ enum Side<'a> {
 // not at c. The variants hold no c and k, which are passed beside: so the compiler makes a loop of its own for each
 // share.
 #[derive(Clone, Copy)]
-enum Share {
+pub enum Share {
     Forced,
     Driver,
     Control,
