@@ -427,7 +427,8 @@ impl Query<'_> {
     // Fill the table from its end: what stands from `at` on are the pairs found, of the rails that are done and of this
     // one's times from the last on. What is asked of a rail is marked, and read from the highest mark down. `ends` has,
     // for each rail of a gate that is done, how many pairs stand from its first on, which no pair more alters, and so
-    // for the one after the last. Nothing is asked for above the target. `at` falls by one for each bit of each word.
+    // for the one after the last. Nothing is asked for above the target. `at` falls by one for each bit of each word. A
+    // word without marks is left at once: there are thousands of them where two marks stand far apart.
     fn fill(&self, table: &mut [u32], marks: &mut [usize], ends: &mut [u32]) -> Option<usize>
         requires { Answerable self.now × (length table.old / 2 * 2 ≡ length table.old)
             × ((t : ℕ) → Marked marks.old t → ⊥) × Roomy self.now.target (length marks.old)
@@ -453,6 +454,9 @@ impl Query<'_> {
             let Span { low, high } = self.mark_asked(&found, node, top, marks);
             for word in (low..high).rev() {
                 let mut bits = marks[word];
+                if bits == 0 {
+                    continue;
+                }
                 marks[word] = 0;
                 while bits != 0 {
                     let bit = bits.ilog2() as usize;

@@ -21,14 +21,18 @@ fn read_list(lists: &mut Lists, numbers: &mut [i32]) -> usize
 }
 
 // One check: the answer, whether the lent part of the slice is zeroed, and whether the four bytes behind it are
-// untouched.
-fn check_case<W: Write>(out: &mut W, lists: &mut Lists) -> io::Result<()> {
-    let mut formula = [0i32; 4096];
-    let mut refutation = [0i32; 4096];
-    let mut propagation = [170u8; 4100];
+// untouched. The room is lent, for to zero it costs more than most checks.
+fn check_case<W: Write>(
+    out: &mut W,
+    lists: &mut Lists,
+    formula: &mut [i32],
+    refutation: &mut [i32],
+    propagation: &mut [u8; 4100],
+) -> io::Result<()> {
+    propagation.fill(170);
     let variables = lists.number();
-    let formula_count = read_list(lists, &mut formula);
-    let refutation_count = read_list(lists, &mut refutation);
+    let formula_count = read_list(lists, formula);
+    let refutation_count = read_list(lists, refutation);
     let room = (lists.number() as usize).min(4096);
     let answer = refute::check(
         variables,
@@ -51,12 +55,21 @@ fn check_case<W: Write>(out: &mut W, lists: &mut Lists) -> io::Result<()> {
 
 // Every case of the input, each of which takes a byte at least.
 fn run<W: Write>(out: &mut W, input: &[u8]) -> io::Result<()> {
+    let mut formula = [0i32; 4096];
+    let mut refutation = [0i32; 4096];
+    let mut propagation = [0u8; 4100];
     let mut lists = Lists { rest: input };
     for _ in 0..input.len() {
         if lists.rest.is_empty() {
             break;
         }
-        check_case(out, &mut lists)?;
+        check_case(
+            out,
+            &mut lists,
+            &mut formula,
+            &mut refutation,
+            &mut propagation,
+        )?;
     }
     Ok(())
 }

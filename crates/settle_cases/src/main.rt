@@ -71,8 +71,16 @@ fn take_case<R: Read, W: Write>(input: &mut R, out: &mut W) -> Result<bool, Stop
     let vector = &mut vector[..length];
     console::fill(input, vector)?;
 
-    let values_room = console::read_count(input, 600)?.ok_or(Stop::Bad)?;
-    let times_room = console::read_count(input, 600)?.ok_or(Stop::Bad)?;
+    // both rooms are read before one is looked at
+    let mut bytes = [0u8; 8];
+    console::fill(input, &mut bytes)?;
+    let mut rooms = [0u32; 2];
+    console::numbers_of(&bytes, &mut rooms);
+    let values_room = rooms[0] as usize;
+    let times_room = rooms[1] as usize;
+    if 600 < values_room || 600 < times_room {
+        return Err(Stop::Bad);
+    }
     answer(out, file, arrivals, vector, values_room, times_room)?;
     Ok(true)
 }
