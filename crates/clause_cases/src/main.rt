@@ -13,8 +13,9 @@ use std::io::{self, Write};
 
 // The numbers of a part.
 fn print_part<W: Write>(out: &mut W, part: &[i32]) -> io::Result<()> {
-    for number in part {
-        write!(out, " {number}")?;
+    for &number in part {
+        let code = clauses::code_of(number);
+        write!(out, "{}{}", [" ", " -"][code % 2], code / 2)?;
     }
     Ok(())
 }

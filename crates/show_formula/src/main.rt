@@ -18,10 +18,14 @@ use std::io::{self, Write};
 fn print_formula<W: Write>(out: &mut W, counts: Counts, formula: &[i32]) -> io::Result<()> {
     writeln!(out, "p cnf {} {}", counts.variables, counts.clauses)?;
     for &number in &formula[..counts.numbers.min(formula.len())] {
-        if number == 0 {
+        let code = clauses::code_of(number);
+        let variable = code / 2;
+        if code == 0 {
             writeln!(out, "0")?;
+        } else if code % 2 == 1 {
+            write!(out, "-{variable} ")?;
         } else {
-            write!(out, "{number} ")?;
+            write!(out, "{variable} ")?;
         }
     }
     Ok(())
